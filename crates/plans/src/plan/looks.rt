@@ -1,0 +1,43 @@
+// What a plan tells of itself.
+ghost use mathlib.Core.Path.{_≡_};
+ghost use Prim.Native.Nat.{ℕ, _<_, _≤_};
+ghost use lib.ListN.{length, take, getD};
+ghost use Rattle.std.specs.Results.{Cases};
+ghost use Rattle.plans.specs.Sound.{Sound};
+use crate::plan::Link;
+use crate::plan::Plan;
+use crate::plan::Unit;
+use refusals::Refusal;
+use weights::weight::Weight;
+
+impl<'a, W: Weight> Plan<'a, W> {
+    // How many units there are.
+    pub fn unit_count(&self) -> usize
+        ensures { λ r. ⌜ r ≡ now (self .entry) .«unit_count» ⌝ }
+    {
+        self.unit_count
+    }
+
+    // How many links there are.
+    pub fn link_count(&self) -> usize
+        ensures { λ r. ⌜ r ≡ now (self .entry) .«link_count» ⌝ }
+    {
+        self.link_count
+    }
+
+    // The units, by number.
+    pub fn units(&self) -> &[Unit]
+        requires { ⌜ Sound (now self) ⌝ }
+        ensures { λ r. ⌜ now r ≡ take (now (self .entry) .«unit_count») (now (self .entry) .units) ⌝ }
+    {
+        &self.units[0..self.unit_count]
+    }
+
+    // The links, by number.
+    pub fn links(&self) -> &[Link<W>]
+        requires { ⌜ Sound (now self) ⌝ }
+        ensures { λ r. ⌜ now r ≡ take (now (self .entry) .«link_count») (now (now (self .entry) .links)) ⌝ }
+    {
+        &self.links[0..self.link_count]
+    }
+}
