@@ -40,4 +40,16 @@ impl<'a, W: Weight> Plan<'a, W> {
     {
         &self.links[0..self.link_count]
     }
+
+    // The link with a number: 13 if there is none.
+    pub fn link_at(&self, link: usize) -> Result<Link<W>, Refusal>
+        requires { ⌜ Sound (now self) ⌝ }
+        ensures { λ r. ⌜ Cases r (λ l. (link < now (self .entry) .«link_count») × (l ≡ getD (now (now (self .entry) .links)) link l)) (λ e. (e ≡ Refusal.NoSuchLink) × (now (self .entry) .«link_count» ≤ link)) ⌝ }
+    {
+        if link >= self.link_count {
+            return Err(Refusal::NoSuchLink);
+        }
+        let links: &[Link<W>] = self.links;
+        Ok(links[link])
+    }
 }
