@@ -4,6 +4,7 @@ use codes::code::FaultCode;
 pub mod edits;
 pub mod looks;
 pub mod opens;
+pub mod weighs;
 
 // A plan has at most so many units, and so many links.
 pub const UNITS: usize = 64;

@@ -3,7 +3,8 @@ ghost use mathlib.Core.Path.{_≡_};
 ghost use Prim.Native.Nat.{ℕ, _<_, _≤_};
 ghost use lib.ListN.{length, take, getD};
 ghost use Rattle.std.specs.Results.{Cases};
-ghost use Rattle.plans.specs.Sound.{Sound};
+ghost use Rattle.std.specs.shelf.Lists.{Every};
+ghost use Rattle.plans.specs.Sound.{Ends, Sound};
 use crate::plan::Link;
 use crate::plan::Plan;
 use crate::plan::Unit;
@@ -36,7 +37,9 @@ impl<'a, W: Weight> Plan<'a, W> {
     // The links, by number.
     pub fn links(&self) -> &[Link<W>]
         requires { ⌜ Sound (now self) ⌝ }
-        ensures { λ r. ⌜ now r ≡ take (now (self .entry) .«link_count») (now (now (self .entry) .links)) ⌝ }
+        ensures value { λ r. ⌜ now r ≡ take (now (self .entry) .«link_count») (now (now (self .entry) .links)) ⌝ }
+        ensures len { λ r. ⌜ length (now r) ≡ now (self .entry) .«link_count» ⌝ }
+        ensures ends { λ r. ⌜ Every (Ends (now (self .entry) .«unit_count»)) (now r) 0 (length (now r)) ⌝ }
     {
         &self.links[0..self.link_count]
     }
