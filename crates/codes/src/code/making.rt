@@ -1,9 +1,7 @@
 // Codes made from characters.
 ghost use mathlib.Core.Path.{_≡_};
 ghost use mathlib.Core.Bool.{true, false};
-ghost use Prim.Native.Nat.{ℕ, _-_, _≤_};
 ghost use lib.Chars.{codes};
-ghost use lib.ListN.{length, take, drop, replicate};
 ghost use Rattle.std.specs.Orderings.{Decides};
 ghost use Rattle.std.specs.Results.{Cases, isOk};
 ghost use Rattle.std.specs.Vec.{made};
@@ -23,10 +21,7 @@ impl FaultCode {
         if !is_code(text) {
             return Err(Refusal::NotACode);
         }
-        Ok(FaultCode {
-            bytes: padded(text),
-            len: text.len(),
-        })
+        Ok(holding(text))
     }
 
     // A fixed code, which fills unused places of a table.
@@ -40,14 +35,14 @@ impl FaultCode {
     }
 }
 
-// The characters, and zeros behind them.
-fn padded(text: &[u8]) -> [u8; 7]
-    requires { ⌜ length (now text) ≤ 7 ⌝ }
-    ensures size { λ r. ⌜ length r ≡ 7 ⌝ }
-    ensures front { λ r. ⌜ take (length (now (text .entry))) r ≡ now (text .entry) ⌝ }
-    ensures rest { λ r. ⌜ drop (length (now (text .entry))) r ≡ replicate (7 - length (now (text .entry))) 0 ⌝ }
+// The one value with these characters.
+fn holding(text: &[u8]) -> FaultCode
+    requires { ⌜ isCode (now text) ≡ true ⌝ }
+    ensures chars { λ r. ⌜ bytesOf r ≡ now (text .entry) ⌝ }
+    ensures only { λ r. ⌜ ((d : FaultCode) → bytesOf d ≡ now (text .entry) → d ≡ r) ⌝ }
 {
+    let len = text.len();
     let mut bytes = [0; 7];
-    bytes[0..text.len()].copy_from_slice(text);
-    bytes
+    bytes[0..len].copy_from_slice(text);
+    FaultCode { bytes, len }
 }

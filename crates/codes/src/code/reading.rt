@@ -55,6 +55,7 @@ pub impl fmt::Display for FaultCode as FaultCodeDisplay {
     fn fmt<W: fmt::Write>(&self, f: &mut fmt::Formatter<W>) -> fmt::Result {
         match std::str::from_utf8(self.text()) {
             Ok(text) => f.pad(text),
+            // never comes, as letters and digits are text
             Err(_) => Err(fmt::Error),
         }
     }
