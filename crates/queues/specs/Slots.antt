@@ -28,6 +28,16 @@ waiting slots reach g = cond (ltb g reach) (keyed slots g) None
 abbrev pub Fits : ℕ → ℕ → Type 0
 Fits size reach = (reach ≤ 64) × (64 ≤ size)
 
+-- a key is there only of a group from 0 to 63
+abbrev pub Within : {W : Type 0} → Option W → ℕ → Type 0
+Within None g = Unit {0}
+Within (Some k) g = g < 64
+
+-- an entry is there only of a group below the reach
+abbrev pub Reached : {W : Type 0} → Option (ℕ × W) → ℕ → Type 0
+Reached None reach = Unit {0}
+Reached (Some p) reach = p .0 < reach
+
 -- every group before g is lighter than k
 abbrev pub First : {W : Type 0} → (W → W → Bool) → (ℕ → Option W) → ℕ → W → Type 0
 First {W} le key g k = (h : ℕ) (v : W) → h < g → key h ≡ Some v → le k v ≡ false

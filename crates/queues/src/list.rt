@@ -4,10 +4,10 @@ ghost use Prim.Native.Nat.{ℕ, _+_, _≤_, _<_};
 ghost use lib.ListN.{length};
 ghost use denote.Ref.{now};
 ghost use Rattle.std.specs.declared.option.Option.{Option};
-ghost use Rattle.std.specs.declared.option.Option.the-variants.{None};
-ghost use Rattle.queues.specs.Keys.{Empty, Unchanged};
+ghost use Rattle.std.specs.declared.option.Option.the-variants.{Some, None};
+ghost use Rattle.queues.specs.Keys.{Empty, Unchanged, Becomes};
 ghost use Rattle.queues.specs.Memory.{Enough};
-ghost use Rattle.queues.specs.Slots.{held, keyed, waiting, Fits, Best, beats};
+ghost use Rattle.queues.specs.Slots.{held, keyed, waiting, Fits, Within, Reached, Best, beats};
 use crate::queue::PriorityQueue;
 use crate::queue::GROUPS;
 use refusals::Refusal;
@@ -58,18 +58,43 @@ impl<'a, W: Weight> ListQueue<'a, W> {
         ListQueue { slots, reach: 0 }
     }
 
+    // The key of a group, where it waits.
     fn key_of(&self, group: usize) -> Option<W>
         requires { ⌜ Fits (length (now (now self .slots))) (now self .reach) ⌝ }
-        ensures { λ r. ⌜ r ≡ waiting (now (now (self .entry) .slots)) (now (self .entry) .reach) group ⌝ }
+        ensures key { λ r. ⌜ r ≡ waiting (now (now (self .entry) .slots)) (now (self .entry) .reach) group ⌝ }
+        ensures within { λ r. ⌜ Within r group ⌝ }
     {
         key_at(self.slots, self.reach, group)
     }
 
+    // The heaviest entry; of equally heavy ones that of the lowest group.
     fn heaviest(&self) -> Option<(usize, W)>
         requires { ⌜ Fits (length (now (now self .slots))) (now self .reach) ⌝ }
-        ensures { λ r. ⌜ Best (λ a b. W·Weight .le (W·Weight .value a) (W·Weight .value b)) (waiting (now (now (self .entry) .slots)) (now (self .entry) .reach)) r ⌝ }
+        ensures within { λ r. ⌜ Reached r (now (self .entry) .reach) ⌝ }
+        ensures best { λ r. ⌜ Best (λ a b. W·Weight .le (W·Weight .value a) (W·Weight .value b)) (waiting (now (now (self .entry) .slots)) (now (self .entry) .reach)) r ⌝ }
     {
         heaviest_of(self.slots, self.reach)
+    }
+
+    // Gives a group a key, whether it waited or not.
+    fn set_key(&mut self, group: usize, key: W)
+        requires sound { ⌜ Fits (length (now (now self .slots))) (now self .reach) ⌝ }
+        requires within { ⌜ group < 64 ⌝ }
+        ensures sound { λ _. ⌜ Fits (length (now (now (self .exit) .slots))) (now (self .exit) .reach) ⌝ }
+        ensures key { λ _. ⌜ Becomes (waiting (now (now (self .entry) .slots)) (now (self .entry) .reach)) (waiting (now (now (self .exit) .slots)) (now (self .exit) .reach)) group (Some key) ⌝ }
+    {
+        self.reach_past(group);
+        self.slots[group] = Slot { waits: true, key };
+    }
+
+    // Removes the entry of a group.
+    fn remove(&mut self, group: usize)
+        requires sound { ⌜ Fits (length (now (now self .slots))) (now self .reach) ⌝ }
+        requires reached { ⌜ group < now self .reach ⌝ }
+        ensures sound { λ _. ⌜ Fits (length (now (now (self .exit) .slots))) (now (self .exit) .reach) ⌝ }
+        ensures key { λ _. ⌜ Becomes (waiting (now (now (self .entry) .slots)) (now (self .entry) .reach)) (waiting (now (now (self .exit) .slots)) (now (self .exit) .reach)) group None ⌝ }
+    {
+        self.slots[group].waits = false;
     }
 
     // Makes the slot of a group count; the entries stay as they are.
@@ -105,11 +130,10 @@ pub impl<'a, W: Weight> PriorityQueue for ListQueue<'a, W> as ListQueuePriorityQ
         if group >= GROUPS {
             return Err(Refusal::NoSuchUnit);
         }
-        if self.key_of(group).is_some() {
+        if let Some(_) = self.key_of(group) {
             return Err(Refusal::AlreadyWaiting);
         }
-        self.reach_past(group);
-        self.slots[group] = Slot { waits: true, key: weight };
+        self.set_key(group, weight);
         Ok(())
     }
 
@@ -118,14 +142,14 @@ pub impl<'a, W: Weight> PriorityQueue for ListQueue<'a, W> as ListQueuePriorityQ
             return Err(Refusal::NotWaiting);
         };
         let key = old.sum(by)?;
-        self.slots[group] = Slot { waits: true, key };
+        self.set_key(group, key);
         Ok(key)
     }
 
     fn take(&mut self) -> Option<(usize, W)> {
         let found = self.heaviest();
         if let Some((group, _)) = found {
-            self.slots[group].waits = false;
+            self.remove(group);
         }
         found
     }
