@@ -1,2 +1,3 @@
-// Priority queues of groups by weight: what every queue means, a linear list and a heap.
+// Priority queues of groups by weight: what every queue means, and a linear list.
+pub mod list;
 pub mod queue;
