@@ -7,9 +7,9 @@ use Rattle.std.specs.shelf.Lists.{Every}
 use Rattle.plans.specs.declared.plan.Link.{Link}
 use Rattle.plans.specs.declared.plan.Plan.{Plan}
 
--- both ends are among the first n units
+-- both ends are among the first n units, and differ
 abbrev pub Ends : {W : Type 0} → ℕ → Link W → Type 0
-Ends n l = (l .first < n) × (l .second < n)
+Ends n l = (l .first < n) × (l .second < n) × (l .first ≡ l .second → ⊥)
 
 -- open gives it, and every call asks for it and gives it back
 pub record Sound {W : Type 0} (p : Plan W) : Type 0 where

@@ -3,6 +3,7 @@ ghost use mathlib.Core.Path.{_≡_};
 ghost use Prim.Native.Nat.{ℕ, _+_, _<_, _≤_};
 ghost use lib.ListN.{length, getD};
 ghost use Rattle.std.specs.Slices.{found};
+ghost use Rattle.std.specs.Vec.{made};
 ghost use Rattle.plans.specs.Shifts.{Shifted};
 ghost use Rattle.plans.specs.Sound.{Ends, Sound};
 use crate::plan::Link;
@@ -99,6 +100,7 @@ impl<'a, W: Weight> Plan<'a, W> {
     pub fn link(&mut self, first: usize, second: usize, weight: W) -> Result<usize, Refusal>
         requires { ⌜ Sound (now self) ⌝ }
         ensures sound { λ _. ⌜ Sound (now (self .exit)) ⌝ }
+        ensures ends { λ r. ⌜ made r (λ _. (first < now (self .entry) .«unit_count») × (second < now (self .entry) .«unit_count»)) ⌝ }
     {
         if first >= self.unit_count || second >= self.unit_count {
             return Err(Refusal::NoSuchUnit);
@@ -183,5 +185,17 @@ impl<'a, W: Weight> Plan<'a, W> {
         };
         self.set_link(link, Link { in_service, ..old });
         Ok(())
+    }
+
+    // Sets the marks of all links from a table of them, 1 for in service.
+    pub fn put_marks(&mut self, marks: &[u8])
+        requires sound { ⌜ Sound (now self) ⌝ }
+        requires size { ⌜ now self .«link_count» ≤ length (now marks) ⌝ }
+        ensures sound { λ _. ⌜ Sound (now (self .exit)) ⌝ }
+        ensures units { λ _. ⌜ now (self .exit) .«unit_count» ≡ now (self .entry) .«unit_count» ⌝ }
+    {
+        for i in 0..self.link_count {
+            self.links[i].in_service = marks[i] == 1;
+        }
     }
 }

@@ -3,6 +3,7 @@ ghost use mathlib.Core.Path.{_≡_};
 ghost use Prim.Native.Nat.{ℕ, _<_, _≤_};
 ghost use lib.ListN.{length, take, getD};
 ghost use Rattle.std.specs.Results.{Cases};
+ghost use Rattle.std.specs.Vec.{made};
 ghost use Rattle.std.specs.shelf.Lists.{Every};
 ghost use Rattle.plans.specs.Sound.{Ends, Sound};
 use crate::plan::Link;
@@ -47,7 +48,8 @@ impl<'a, W: Weight> Plan<'a, W> {
     // The link with a number: 13 if there is none.
     pub fn link_at(&self, link: usize) -> Result<Link<W>, Refusal>
         requires { ⌜ Sound (now self) ⌝ }
-        ensures { λ r. ⌜ Cases r (λ l. (link < now (self .entry) .«link_count») × (l ≡ getD (now (now (self .entry) .links)) link l)) (λ e. (e ≡ Refusal.NoSuchLink) × (now (self .entry) .«link_count» ≤ link)) ⌝ }
+        ensures ends { λ r. ⌜ made r (λ l. Ends (now (self .entry) .«unit_count») l) ⌝ }
+        ensures value { λ r. ⌜ Cases r (λ l. (link < now (self .entry) .«link_count») × (l ≡ getD (now (now (self .entry) .links)) link l)) (λ e. (e ≡ Refusal.NoSuchLink) × (now (self .entry) .«link_count» ≤ link)) ⌝ }
     {
         if link >= self.link_count {
             return Err(Refusal::NoSuchLink);

@@ -8,7 +8,7 @@ returns g c =
         few = omega arith;
         short = c .pre .short;
         memory = c .pre .memory;
-        ends = λ k d low high. let e = c .pre .ends k d low high in (omega arith, omega arith);
+        ends = λ k d low high. let e = c .pre .ends k d low high in (omega arith, omega arith, e .2);
         limited = c .pre .limited;
       };
     }

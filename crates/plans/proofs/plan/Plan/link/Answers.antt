@@ -19,7 +19,8 @@ returns g c =
         few = omega arith;
         short = omega arith;
         memory = simp length-set (c .pre .memory);
-        ends = every-more-set (p .links .now) (p .«link_count») _ room (Ends (p .«unit_count»)) (c .pre .ends) (omega arith, omega arith);
+        ends = every-more-set (p .links .now) (p .«link_count») _ room (Ends (p .«unit_count»)) (c .pre .ends) (omega arith, omega arith, λ e. c .if-first-second .left e);
         limited = omega arith;
       };
+      ends = (omega arith, omega arith);
     }
