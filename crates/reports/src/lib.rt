@@ -1,0 +1,2 @@
+// What the program prints of a sheet.
+pub mod report;
