@@ -1,0 +1,2 @@
+// A priority queue as a binary heap.
+pub mod heap;
