@@ -11,7 +11,7 @@ use Rattle.std.specs.declared.option.Option.the-variants.{Some, None}
 use Rattle.std.specs.shelf.Maps.{update}
 use Rattle.std.proofs.shelf.Maps.{update-here, update-apart}
 use Rattle.queues.specs.Keys.{Unchanged, Becomes}
-use Rattle.heaps.specs.declared.heap.HeapEntry.{HeapEntry}
+use Rattle.heaps.specs.declared.entry.HeapEntry.{HeapEntry}
 use Rattle.heaps.specs.Tree.{Swapped}
 use Rattle.heaps.specs.Heaped.{keyIn, Here, Agrees}
 use Rattle.heaps.proofs.Order.{one}

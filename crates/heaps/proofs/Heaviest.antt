@@ -7,9 +7,10 @@ use Rattle.std.specs.declared.option.Option.{Option}
 use Rattle.std.specs.declared.option.Option.the-variants.{Some, None}
 use Rattle.queues.specs.Keys.{Heaviest}
 use Rattle.queues.proofs.Orders.{Ordered}
-use Rattle.heaps.specs.declared.heap.HeapEntry.{HeapEntry}
+use Rattle.heaps.specs.declared.entry.HeapEntry.{HeapEntry}
 use Rattle.heaps.specs.Tree.{InOrder}
-use Rattle.heaps.specs.Heaped.{before, keyIn, Agrees}
+use Rattle.heaps.specs.Entries.{before}
+use Rattle.heaps.specs.Heaped.{keyIn, Agrees}
 use Rattle.heaps.proofs.Ranks.{entry-ranks, before-le}
 use Rattle.heaps.proofs.Order.{one, top-first}
 use Rattle.heaps.proofs.Tables.{Spot, spot, key-in, clash}

@@ -8,8 +8,8 @@ use lib.Dec.{ltb}
 use Rattle.std.proofs.shelf.Tests.{ltb-true, ltb-false, le-ltb, both-ways, cases-bool}
 use Rattle.weights.specs.Laws.{Laws, limit}
 use Rattle.queues.proofs.Orders.{Ordered}
-use Rattle.heaps.specs.declared.heap.HeapEntry.{HeapEntry}
-use Rattle.heaps.specs.Heaped.{before}
+use Rattle.heaps.specs.declared.entry.HeapEntry.{HeapEntry}
+use Rattle.heaps.specs.Entries.{before}
 
 pub record Ranked {X : Type 0} (first : X → X → Bool) : Type 0 where
   pub either : (a b : X) → first a b ≡ true → first b a ≡ false

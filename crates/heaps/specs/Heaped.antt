@@ -1,6 +1,6 @@
 -- What the entries of a heap and the table of their places mean.
 use mathlib.Core.Path.{_≡_}
-use mathlib.Core.Bool.{Bool, true, false, cond}
+use mathlib.Core.Bool.{Bool, cond}
 use mathlib.Core.List.{List}
 use Prim.Native.Nat.{ℕ, _≤_, _<_}
 use lib.Dec.{eqb, ltb}
@@ -9,14 +9,11 @@ use denote.Ref.{now}
 use Rattle.std.specs.shelf.Maps.{nth}
 use Rattle.std.specs.declared.option.Option.{Option}
 use Rattle.std.specs.declared.option.Option.the-variants.{Some, None}
-use Rattle.heaps.specs.declared.heap.HeapEntry.{HeapEntry}
+use Rattle.heaps.specs.declared.entry.HeapEntry.{HeapEntry}
 use Rattle.heaps.specs.declared.heap.HeapQueue.{HeapQueue}
 use Rattle.queues.specs.Keys.{Empty, Heaviest}
+use Rattle.heaps.specs.Entries.{before}
 use Rattle.heaps.specs.Tree.{InOrder}
-
--- the heavier entry comes first, and of equally heavy ones that of the lower group
-abbrev pub before : {W : Type 0} → (W → W → Bool) → HeapEntry W → HeapEntry W → Bool
-before le a b = cond (le (a .key) (b .key)) (cond (le (b .key) (a .key)) (ltb (a .group) (b .group)) false) true
 
 -- the place of a group by the table
 abbrev pub placed : List ℕ → ℕ → ℕ

@@ -5,32 +5,20 @@ ghost use Prim.Native.Nat.{ℕ, _+_, _≤_, _<_};
 ghost use lib.Dec.{eqb};
 ghost use lib.ListN.{length};
 ghost use denote.Ref.{now};
-ghost use Rattle.std.specs.shelf.Maps.{nth};
 ghost use Rattle.std.specs.declared.option.Option.{Option};
 ghost use Rattle.std.specs.declared.option.Option.the-variants.{Some, None};
 ghost use Rattle.queues.specs.Keys.{Empty, Unchanged, Becomes};
 ghost use Rattle.queues.specs.Memory.{Enough};
 ghost use Rattle.heaps.specs.Tree.{InOrder, Rising, Sinking, Swapped, Eldest};
-ghost use Rattle.heaps.specs.Heaped.{before as ahead, placed, standing, heapKey, Kept, Heaped, Finds, Top};
+ghost use Rattle.heaps.specs.Entries.{before as ahead};
+ghost use Rattle.heaps.specs.Heaped.{placed, standing, heapKey, Kept, Heaped, Finds, Top};
+use crate::entry::before;
+use crate::entry::read;
+use crate::entry::HeapEntry;
 use queues::queue::PriorityQueue;
 use queues::queue::GROUPS;
 use refusals::Refusal;
 use weights::weight::Weight;
-
-#[derive(Clone, Copy)]
-pub struct HeapEntry<W> {
-    group: usize,
-    key: W,
-}
-
-impl<W: Weight> HeapEntry<W> {
-    // An entry to make memory of; a queue does not look at what its memory held before.
-    pub fn blank() -> HeapEntry<W>
-        ensures { λ r. ⌜ r .group ≡ 0 ⌝ ∗ ⌜ W·Weight .value (r .key) ≡ W·Weight .zero ⌝ }
-    {
-        HeapEntry { group: 0, key: W::nothing() }
-    }
-}
 
 // A queue over lent entries, of which the first `count` wait, in the order of a binary heap. `places`
 // says at which place the entry of a waiting group stands; a group waits if the entry there is its own.
@@ -275,26 +263,4 @@ pub impl<'a, W: Weight> PriorityQueue for HeapQueue<'a, W> as HeapQueuePriorityQ
         self.pop();
         Some((top.group, top.key))
     }
-}
-
-// The entry at a place of the lent memory.
-fn read<W: Weight>(entries: &[HeapEntry<W>], at: usize) -> HeapEntry<W>
-    requires { ⌜ at < length (now entries) ⌝ }
-    ensures { λ r. ⌜ nth (now (entries .entry)) at ≡ Some r ⌝ }
-{
-    entries[at]
-}
-
-// Whether an entry has to come before another: the heavier one first, and of equally heavy ones that
-// of the lower group.
-fn before<W: Weight>(a: HeapEntry<W>, b: HeapEntry<W>) -> bool
-    ensures { λ r. ⌜ r ≡ ahead (λ a b. W·Weight .le (W·Weight .value a) (W·Weight .value b)) a b ⌝ }
-{
-    if !a.key.at_most(b.key) {
-        return true;
-    }
-    if !b.key.at_most(a.key) {
-        return false;
-    }
-    a.group < b.group
 }

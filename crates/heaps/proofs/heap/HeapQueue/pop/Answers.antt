@@ -3,7 +3,8 @@ use Prim.Native.Nat.{_+_, _-_}
 use native.Mathlib.Omega.{arith}
 use Rattle.std.specs.declared.option.Option.the-variants.{None}
 use Rattle.queues.proofs.Slotted.{update-ap}
-use Rattle.heaps.specs.Heaped.{before, placed, standing, heapKey}
+use Rattle.heaps.specs.Entries.{before}
+use Rattle.heaps.specs.Heaped.{placed, standing, heapKey}
 use Rattle.heaps.proofs.Order.{sinking-last}
 use Rattle.heaps.proofs.Changes.{pop-agrees, pop-keys}
 use Rattle.heaps.proofs.heap.HeapQueue.pop.Needs as need

@@ -1,6 +1,7 @@
 use mathlib.Core.Path.{_≡_, _∙_}
 use native.Mathlib.Omega.{arith}
-use Rattle.heaps.specs.Heaped.{before, placed, standing}
+use Rattle.heaps.specs.Entries.{before}
+use Rattle.heaps.specs.Heaped.{placed, standing}
 use Rattle.heaps.proofs.Order.{rising-new}
 use Rattle.heaps.proofs.Changes.{room-left, push-agrees, push-keys}
 use Rattle.heaps.proofs.heap.HeapQueue.push.Needs as need

@@ -1,7 +1,8 @@
 use mathlib.Core.Path.{_≡_, sym, _∙_}
 use native.Mathlib.Omega.{arith}
 use Rattle.queues.proofs.Orders.{ordered}
-use Rattle.heaps.specs.Heaped.{before, placed, standing}
+use Rattle.heaps.specs.Entries.{before}
+use Rattle.heaps.specs.Heaped.{placed, standing}
 use Rattle.heaps.proofs.Ranks.{entry-ranks, before-raised}
 use Rattle.heaps.proofs.Order.{rising-raised}
 use Rattle.heaps.proofs.Changes.{raise-agrees, raise-keys}

@@ -1,7 +1,8 @@
 use mathlib.Core.Path.{_≡_, sym, _∙_}
 use native.Mathlib.Omega.{arith}
 use Rattle.queues.proofs.Orders.{ordered}
-use Rattle.heaps.specs.Heaped.{before, standing}
+use Rattle.heaps.specs.Entries.{before}
+use Rattle.heaps.specs.Heaped.{standing}
 use Rattle.heaps.proofs.Ranks.{entry-ranks}
 use Rattle.heaps.proofs.Order.{sink, sink-end}
 use Rattle.heaps.proofs.heap.HeapQueue.sift_down.Needs as need

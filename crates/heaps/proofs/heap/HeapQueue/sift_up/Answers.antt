@@ -2,7 +2,8 @@ use mathlib.Core.Path.{_≡_, sym, _∙_}
 use Prim.Native.Nat.{ℕ, _-_, _/_, _<_}
 use native.Mathlib.Omega.{arith}
 use Rattle.queues.proofs.Orders.{ordered}
-use Rattle.heaps.specs.Heaped.{before, standing}
+use Rattle.heaps.specs.Entries.{before}
+use Rattle.heaps.specs.Heaped.{standing}
 use Rattle.heaps.proofs.Ranks.{entry-ranks}
 use Rattle.heaps.proofs.Order.{parent-of, rise}
 use Rattle.heaps.proofs.heap.HeapQueue.sift_up.Needs as need
