@@ -57,18 +57,18 @@ module _ {W : Type 0} (at at₁ at₂ : ℕ → Option (HeapEntry W)) (place pla
   swap-agrees = let ha = agrees-at at place n was i a li ia in let hb = agrees-at at place n was j b lj jb in record {
     fits = was .fits;
     here = λ k lt. ⊎-elim
-      (λ (kj : k ≡ j). record { entry = a; is = ap at₂ kj ∙ at-j; group = ha .0; back = sent place₁ place₂ a j s₂ ∙ sym kj })
-      (λ (nkj : k ≡ j → ⊥). ⊎-elim
+        (λ (kj : k ≡ j). record { entry = a; is = ap at₂ kj ∙ at-j; group = ha .0; back = sent place₁ place₂ a j s₂ ∙ sym kj })
+        (λ (nkj : k ≡ j → ⊥). ⊎-elim
         (λ (ki : k ≡ i).
-          let ne : b .group ≡ a .group → ⊥ = λ e. nkj (ki ∙ sym (ha .1) ∙ ap place (sym e) ∙ hb .1) in
-          record { entry = b; is = ap at₂ ki ∙ at-i (λ e. nkj (ki ∙ e)); group = hb .0; back = unsent place₁ place₂ a j s₂ (b .group) ne ∙ sent place place₁ b i s₁ ∙ sym ki })
+        let ne : b .group ≡ a .group → ⊥ = λ e. nkj (ki ∙ sym (ha .1) ∙ ap place (sym e) ∙ hb .1) in
+        record { entry = b; is = ap at₂ ki ∙ at-i (λ e. nkj (ki ∙ e)); group = hb .0; back = unsent place₁ place₂ a j s₂ (b .group) ne ∙ sent place place₁ b i s₁ ∙ sym ki })
         (λ (nki : k ≡ i → ⊥).
-          let h = was .here k lt in
-          let na : h .entry .group ≡ a .group → ⊥ = λ e. nki (sym (h .back) ∙ ap place e ∙ ha .1) in
-          let nb : h .entry .group ≡ b .group → ⊥ = λ e. nkj (sym (h .back) ∙ ap place e ∙ hb .1) in
-          record { entry = h .entry; is = at-rest k nki nkj ∙ h .is; group = h .group; back = unsent place₁ place₂ a j s₂ (h .entry .group) na ∙ unsent place place₁ b i s₁ (h .entry .group) nb ∙ h .back })
+        let h = was .here k lt in
+        let na : h .entry .group ≡ a .group → ⊥ = λ e. nki (sym (h .back) ∙ ap place e ∙ ha .1) in
+        let nb : h .entry .group ≡ b .group → ⊥ = λ e. nkj (sym (h .back) ∙ ap place e ∙ hb .1) in
+        record { entry = h .entry; is = at-rest k nki nkj ∙ h .is; group = h .group; back = unsent place₁ place₂ a j s₂ (h .entry .group) na ∙ unsent place place₁ b i s₁ (h .entry .group) nb ∙ h .back })
         (cases-eq k i))
-      (cases-eq k j);
+        (cases-eq k j);
   }
 
 -- entries that the table tells apart are at most as many as the groups
@@ -78,8 +78,8 @@ groupAt (Some e) = e .group
 
 all-fit : {W : Type 0} (at : ℕ → Option (HeapEntry W)) (place : ℕ → ℕ) (n : ℕ) → ((i : ℕ) → i < n → Here at place i) → n ≤ 64
 all-fit at place n here = pigeons n 64 (λ i. groupAt (at i))
-  (λ i lt. let h = here i lt in rw (h .is) (h .group))
-  (λ i j li lj e.
+    (λ i lt. let h = here i lt in rw (h .is) (h .group))
+    (λ i j li lj e.
     let h = here i li in
     let k = here j lj in
     sym (h .back) ∙ ap (λ o. place (groupAt o)) (sym (h .is)) ∙ ap place e ∙ ap (λ o. place (groupAt o)) (k .is) ∙ k .back)
@@ -90,26 +90,26 @@ module _ {W : Type 0} (at at′ : ℕ → Option (HeapEntry W)) (place place′ 
 
   push-here : (i : ℕ) → i < n + 1 → Here at′ place′ i
   push-here i lt = ⊎-elim
-    (λ (same : i ≡ n). record { entry = e; is = ap at′ same ∙ w n ∙ update-here at n (Some e); group = low; back = sent place place′ e n s ∙ sym same })
-    (λ (ne : i ≡ n → ⊥).
+      (λ (same : i ≡ n). record { entry = e; is = ap at′ same ∙ w n ∙ update-here at n (Some e); group = low; back = sent place place′ e n s ∙ sym same })
+      (λ (ne : i ≡ n → ⊥).
       let under : i < n = ⊎-elim (λ (l : i < n). l) (λ (m : n ≤ i). absurd (ne (omega arith))) (cases-lt i n) in
       let h = was .here i under in
       let apart : h .entry .group ≡ e .group → ⊥ = λ z. clash (key-in at place n was i (e .group) (h .entry) under (h .is) z) none in
       record { entry = h .entry; is = push-other i under ∙ h .is; group = h .group; back = unsent place place′ e n s (h .entry .group) apart ∙ h .back })
-    (cases-eq i n)
+      (cases-eq i n)
 
   pub push-agrees : Agrees at′ place′ (n + 1)
   push-agrees = record { fits = all-fit at′ place′ (n + 1) push-here; here = push-here }
 
   pub push-keys : Becomes (keyIn at place n) (keyIn at′ place′ (n + 1)) (e .group) (Some (e .key))
   push-keys = key-becomes at place n at′ place′ (n + 1) was push-agrees (e .group) (Some (e .key))
-    (key-in at′ place′ (n + 1) push-agrees n (e .group) e (omega arith) (w n ∙ update-here at n (Some e)) refl)
-    (λ q ne i x lt is own. (i, omega arith, push-other i lt ∙ is))
-    (λ q ne i x lt is own. ⊎-elim
+      (key-in at′ place′ (n + 1) push-agrees n (e .group) e (omega arith) (w n ∙ update-here at n (Some e)) refl)
+      (λ q ne i x lt is own. (i, omega arith, push-other i lt ∙ is))
+      (λ q ne i x lt is own. ⊎-elim
       (λ (same : i ≡ n). let z : x ≡ e = one is (ap at′ same ∙ w n ∙ update-here at n (Some e)) in absurd (ne (sym own ∙ ap (λ (y : HeapEntry W). y .group) z)))
       (λ (np : i ≡ n → ⊥).
-        let under : i < n = ⊎-elim (λ (l : i < n). l) (λ (m : n ≤ i). absurd (np (omega arith))) (cases-lt i n) in
-        (i, under, sym (push-other i under) ∙ is))
+      let under : i < n = ⊎-elim (λ (l : i < n). l) (λ (m : n ≤ i). absurd (np (omega arith))) (cases-lt i n) in
+      (i, under, sym (push-other i under) ∙ is))
       (cases-eq i n))
 
 -- where a group does not wait, there is room for an entry
@@ -130,22 +130,22 @@ module _ {W : Type 0} (at at′ : ℕ → Option (HeapEntry W)) (place place′ 
   raise-agrees = let h = agrees-at at place n was i e lt is in record {
     fits = was .fits;
     here = λ k under. ⊎-elim
-      (λ (same : k ≡ i). record { entry = e′; is = ap at′ same ∙ raise-there; group = rw own (h .0); back = sent place place′ e′ i s ∙ sym same })
-      (λ (ne : k ≡ i → ⊥).
+        (λ (same : k ≡ i). record { entry = e′; is = ap at′ same ∙ raise-there; group = rw own (h .0); back = sent place place′ e′ i s ∙ sym same })
+        (λ (ne : k ≡ i → ⊥).
         let g = was .here k under in
         let apart : g .entry .group ≡ e′ .group → ⊥ = λ z. ne (sym (g .back) ∙ ap place (z ∙ own) ∙ h .1) in
         record { entry = g .entry; is = raise-other k ne ∙ g .is; group = g .group; back = unsent place place′ e′ i s (g .entry .group) apart ∙ g .back })
-      (cases-eq k i);
+        (cases-eq k i);
   }
 
   pub raise-keys : Becomes (keyIn at place n) (keyIn at′ place′ n) (e .group) (Some (e′ .key))
   raise-keys = key-becomes at place n at′ place′ n was raise-agrees (e .group) (Some (e′ .key))
-    (key-in at′ place′ n raise-agrees i (e .group) e′ lt raise-there own)
-    (λ q ne k x under here mine. ⊎-elim
+      (key-in at′ place′ n raise-agrees i (e .group) e′ lt raise-there own)
+      (λ q ne k x under here mine. ⊎-elim
       (λ (same : k ≡ i). let z : x ≡ e = one here (ap at same ∙ is) in absurd (ne (sym mine ∙ ap (λ (y : HeapEntry W). y .group) z)))
       (λ (nk : k ≡ i → ⊥). (k, under, raise-other k nk ∙ here))
       (cases-eq k i))
-    (λ q ne k x under here mine. ⊎-elim
+      (λ q ne k x under here mine. ⊎-elim
       (λ (same : k ≡ i). let z : x ≡ e′ = one here (ap at′ same ∙ raise-there) in absurd (ne (sym mine ∙ ap (λ (y : HeapEntry W). y .group) z ∙ own)))
       (λ (nk : k ≡ i → ⊥). (k, under, sym (raise-other k nk) ∙ here))
       (cases-eq k i))
@@ -156,18 +156,18 @@ module _ {W : Type 0} (at : ℕ → Option (HeapEntry W)) (place : ℕ → ℕ) 
 
   pub pop-keys : (e : HeapEntry W) → at m ≡ Some e → Becomes (keyIn at place n) (keyIn at place m) (e .group) None
   pop-keys e is =
-    let back = agrees-at at place n was m e (omega arith) is .1 in
-    key-becomes at place n at place m was pop-agrees (e .group) None
-    (key-past at place m (e .group) (omega arith))
-    (λ q ne i x lt here own. ⊎-elim
+      let back = agrees-at at place n was m e (omega arith) is .1 in
+      key-becomes at place n at place m was pop-agrees (e .group) None
+      (key-past at place m (e .group) (omega arith))
+      (λ q ne i x lt here own. ⊎-elim
       (λ (same : i ≡ m). let z : x ≡ e = one here (ap at same ∙ is) in absurd (ne (sym own ∙ ap (λ (y : HeapEntry W). y .group) z)))
       (λ (np : i ≡ m → ⊥). (i, ⊎-elim (λ (l : i < m). l) (λ (k : m ≤ i). absurd (np (omega arith))) (cases-lt i m), here))
       (cases-eq i m))
-    (λ q ne i x lt here own. (i, omega arith, here))
+      (λ q ne i x lt here own. (i, omega arith, here))
 
 -- no group from 64 on waits
 pub key-far : {W : Type 0} (at : ℕ → Option (HeapEntry W)) (place : ℕ → ℕ) (n g : ℕ) → Agrees at place n → 64 ≤ g → keyIn at place n g ≡ None
 key-far at place n g was far = ⊎-elim
-  (λ (s : Spot at n g). let low = agrees-at at place n was (s .place) (s .entry) (s .under) (s .is) .0 in let own = s .own in absurd (omega arith))
-  (λ none. none)
-  (spot at place n g)
+    (λ (s : Spot at n g). let low = agrees-at at place n was (s .place) (s .entry) (s .under) (s .is) .0 in let own = s .own in absurd (omega arith))
+    (λ none. none)
+    (spot at place n g)

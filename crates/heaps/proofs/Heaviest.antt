@@ -19,10 +19,10 @@ pub top-heaviest : {W : Type 0} (le : W → W → Bool) → Ordered le → (at :
 top-heaviest le laws at place n agrees order some e top = record {
   here = key-in at place n agrees 0 (e .group) e some top refl;
   most = λ h v is. ⊎-elim
-    (λ (s : Spot at n h).
+      (λ (s : Spot at n h).
       let same : s .entry .key ≡ v = one (key-in at place n agrees (s .place) h (s .entry) (s .under) (s .is) (s .own)) is in
       let less = top-first (before le) (entry-ranks le laws) at n order (λ j lt. let x = agrees .here j lt in (x .entry, x .is)) (s .place) (s .under) e (s .entry) top (s .is) in
       rw same at (before-le le laws (s .entry) e less))
-    (λ (none : keyIn at place n h ≡ None). clash is none)
-    (spot at place n h);
+      (λ (none : keyIn at place n h ≡ None). clash is none)
+      (spot at place n h);
 }

@@ -23,6 +23,6 @@ nth-set (y ∷ xs) (suc i) x h (suc q) = rw (eqb·suc-suc q i) (nth-set xs i x (
 
 pub getD-set : (xs : List ℕ) (i v d k : ℕ) → i < length xs → getD (set xs i v) k d ≡ cond (eqb k i) v (getD xs k d)
 getD-set xs i v d k h = ⊎-elim
-  (λ (e : k ≡ i). rw e (getD-set-same xs i v d h ∙ sym (cond-true (eqb i i) v (getD xs i d) (eq-eqb i i refl))))
-  (λ (ne : k ≡ i → ⊥). getD-set-other xs i k v d ne ∙ sym (cond-false (eqb k i) v (getD xs k d) (ne-eqb k i ne)))
-  (cases-eq k i)
+    (λ (e : k ≡ i). rw e (getD-set-same xs i v d h ∙ sym (cond-true (eqb i i) v (getD xs i d) (eq-eqb i i refl))))
+    (λ (ne : k ≡ i → ⊥). getD-set-other xs i k v d ne ∙ sym (cond-false (eqb k i) v (getD xs k d) (ne-eqb k i ne)))
+    (cases-eq k i)

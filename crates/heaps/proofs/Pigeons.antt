@@ -19,20 +19,20 @@ pigeons (suc n) (suc m) f low apart =
     let stays : (i : ℕ) → (f i ≡ m → ⊥) → h i ≡ f i = λ i ne. cond-false (eqb (f i) m) (f n) (f i) (ne-eqb (f i) m ne) in
     let last = low n (omega arith) in
     let below : n ≤ m = pigeons n m h
-      (λ i lt. ⊎-elim
-        (λ (e : f i ≡ m).
-          let ne : f n ≡ m → ⊥ = λ z. let same = apart i n (omega arith) (omega arith) (e ∙ sym z) in omega arith in
-          rw (moved i e) (⊎-elim (λ (z : f n ≡ m). absurd (ne z)) (λ (z : f n ≡ m → ⊥). below-suc (f n) m last z) (cases-eq (f n) m)))
-        (λ (ne : f i ≡ m → ⊥). rw (stays i ne) (below-suc (f i) m (low i (omega arith)) ne))
-        (cases-eq (f i) m))
-      (λ i j li lj e. ⊎-elim
-        (λ (a : f i ≡ m). ⊎-elim
-          (λ (b : f j ≡ m). apart i j (omega arith) (omega arith) (a ∙ sym b))
-          (λ (b : f j ≡ m → ⊥). let z = apart n j (omega arith) (omega arith) (sym (moved i a) ∙ e ∙ stays j b) in absurd (omega arith))
-          (cases-eq (f j) m))
-        (λ (a : f i ≡ m → ⊥). ⊎-elim
-          (λ (b : f j ≡ m). let z = apart i n (omega arith) (omega arith) (sym (stays i a) ∙ e ∙ moved j b) in absurd (omega arith))
-          (λ (b : f j ≡ m → ⊥). apart i j (omega arith) (omega arith) (sym (stays i a) ∙ e ∙ stays j b))
-          (cases-eq (f j) m))
-        (cases-eq (f i) m)) in
+    (λ i lt. ⊎-elim
+    (λ (e : f i ≡ m).
+    let ne : f n ≡ m → ⊥ = λ z. let same = apart i n (omega arith) (omega arith) (e ∙ sym z) in omega arith in
+    rw (moved i e) (⊎-elim (λ (z : f n ≡ m). absurd (ne z)) (λ (z : f n ≡ m → ⊥). below-suc (f n) m last z) (cases-eq (f n) m)))
+    (λ (ne : f i ≡ m → ⊥). rw (stays i ne) (below-suc (f i) m (low i (omega arith)) ne))
+    (cases-eq (f i) m))
+    (λ i j li lj e. ⊎-elim
+    (λ (a : f i ≡ m). ⊎-elim
+    (λ (b : f j ≡ m). apart i j (omega arith) (omega arith) (a ∙ sym b))
+    (λ (b : f j ≡ m → ⊥). let z = apart n j (omega arith) (omega arith) (sym (moved i a) ∙ e ∙ stays j b) in absurd (omega arith))
+    (cases-eq (f j) m))
+    (λ (a : f i ≡ m → ⊥). ⊎-elim
+    (λ (b : f j ≡ m). let z = apart i n (omega arith) (omega arith) (sym (stays i a) ∙ e ∙ moved j b) in absurd (omega arith))
+    (λ (b : f j ≡ m → ⊥). apart i j (omega arith) (omega arith) (sym (stays i a) ∙ e ∙ stays j b))
+    (cases-eq (f j) m))
+    (cases-eq (f i) m)) in
     omega arith

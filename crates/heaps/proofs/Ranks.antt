@@ -42,22 +42,22 @@ module _ {W : Type 0} (le : W → W → Bool) (laws : Ordered le) where
   pub entry-ranks : Ranked (before le)
   entry-ranks = record {
     either = λ a b e.
-      let wins = sooner (le (a .key) (b .key)) (le (b .key) (a .key)) (a .group) (b .group) e in
-      ⊎-elim
-      (λ (ab : le (a .key) (b .key) ≡ true). ⊎-elim
+        let wins = sooner (le (a .key) (b .key)) (le (b .key) (a .key)) (a .group) (b .group) e in
+        ⊎-elim
+        (λ (ab : le (a .key) (b .key) ≡ true). ⊎-elim
         (λ (ba : le (b .key) (a .key) ≡ true). later-from _ _ (b .group) (a .group) ba (λ _. let w = wins ba ab in omega arith))
         (λ (nba : le (b .key) (a .key) ≡ false). let z : cond (le (a .key) (b .key)) (cond (le (b .key) (a .key)) (ltb (a .group) (b .group)) false) true ≡ false = rw (ab, nba) in true-or e z)
         (cases-bool (le (b .key) (a .key))))
-      (λ (nab : le (a .key) (b .key) ≡ false). later-from _ _ (b .group) (a .group)
+        (λ (nab : le (a .key) (b .key) ≡ false). later-from _ _ (b .group) (a .group)
         (⊎-elim (λ (ab : le (a .key) (b .key) ≡ true). true-or ab nab) (λ ba. ba) (laws .total (a .key) (b .key)))
         (λ ab. true-or ab nab))
-      (cases-bool (le (a .key) (b .key)));
+        (cases-bool (le (a .key) (b .key)));
     chain = λ a b c e f.
-      let p = later (le (a .key) (b .key)) (le (b .key) (a .key)) (a .group) (b .group) e in
-      let q = later (le (b .key) (c .key)) (le (c .key) (b .key)) (b .group) (c .group) f in
-      later-from (le (a .key) (c .key)) (le (c .key) (a .key)) (a .group) (c .group)
-      (laws .trans (a .key) (b .key) (c .key) (p .0) (q .0))
-      (λ ca.
+        let p = later (le (a .key) (b .key)) (le (b .key) (a .key)) (a .group) (b .group) e in
+        let q = later (le (b .key) (c .key)) (le (c .key) (b .key)) (b .group) (c .group) f in
+        later-from (le (a .key) (c .key)) (le (c .key) (a .key)) (a .group) (c .group)
+        (laws .trans (a .key) (b .key) (c .key) (p .0) (q .0))
+        (λ ca.
         let x = p .1 (laws .trans (b .key) (c .key) (a .key) (q .0) ca) in
         let y = q .1 (laws .trans (c .key) (a .key) (b .key) ca (p .0)) in
         omega arith);

@@ -49,9 +49,9 @@ module _ {W : Type 0} (at : ℕ → Option (HeapEntry W)) (place : ℕ → ℕ) 
   spot-at : (g : ℕ) (o : Option (HeapEntry W)) → place g < n → at (place g) ≡ o → Spot at n g ⊎ (keyIn at place n g ≡ None)
   spot-at g None lt e = inr (key-below g lt ∙ ap (λ o. keyFor o g) e)
   spot-at g (Some x) lt e = ⊎-elim
-    (λ (own : x .group ≡ g). inl (record { place = place g; entry = x; under = lt; is = e; own = own }))
-    (λ (ne : x .group ≡ g → ⊥). inr (key-other g x lt e ne))
-    (cases-eq (x .group) g)
+      (λ (own : x .group ≡ g). inl (record { place = place g; entry = x; under = lt; is = e; own = own }))
+      (λ (ne : x .group ≡ g → ⊥). inr (key-other g x lt e ne))
+      (cases-eq (x .group) g)
 
   -- a group has its place, or does not wait
   pub spot : (g : ℕ) → Spot at n g ⊎ (keyIn at place n g ≡ None)
@@ -64,32 +64,32 @@ Goes {W} at n at′ n′ g = (i : ℕ) (e : HeapEntry W) → i < n → at i ≡ 
 module _ {W : Type 0} (at : ℕ → Option (HeapEntry W)) (place : ℕ → ℕ) (n : ℕ) (at′ : ℕ → Option (HeapEntry W)) (place′ : ℕ → ℕ) (n′ : ℕ) (was : Agrees at place n) (is : Agrees at′ place′ n′) where
   pub key-same : (g : ℕ) → Goes at n at′ n′ g → Goes at′ n′ at n g → keyIn at′ place′ n′ g ≡ keyIn at place n g
   key-same g to from = ⊎-elim
-    (λ (s : Spot at n g).
+      (λ (s : Spot at n g).
       let t = to (s .place) (s .entry) (s .under) (s .is) (s .own) in
       key-in at′ place′ n′ is (t .0) g (s .entry) (t .1) (t .2) (s .own) ∙ sym (key-in at place n was (s .place) g (s .entry) (s .under) (s .is) (s .own)))
-    (λ (none : keyIn at place n g ≡ None). ⊎-elim
+      (λ (none : keyIn at place n g ≡ None). ⊎-elim
       (λ (s : Spot at′ n′ g).
-        let t = from (s .place) (s .entry) (s .under) (s .is) (s .own) in
-        clash (key-in at place n was (t .0) g (s .entry) (t .1) (t .2) (s .own)) none)
+      let t = from (s .place) (s .entry) (s .under) (s .is) (s .own) in
+      clash (key-in at place n was (t .0) g (s .entry) (t .1) (t .2) (s .own)) none)
       (λ (gone : keyIn at′ place′ n′ g ≡ None). gone ∙ sym none)
       (spot at′ place′ n′ g))
-    (spot at place n g)
+      (spot at place n g)
 
   pub key-becomes : (g : ℕ) (x : Option W) → keyIn at′ place′ n′ g ≡ x → ((q : ℕ) → (q ≡ g → ⊥) → Goes at n at′ n′ q) → ((q : ℕ) → (q ≡ g → ⊥) → Goes at′ n′ at n q) → Becomes (keyIn at place n) (keyIn at′ place′ n′) g x
   key-becomes g x here to from q = ⊎-elim
-    (λ (e : q ≡ g). rw e (here ∙ sym (update-here (keyIn at place n) g x)))
-    (λ (ne : q ≡ g → ⊥). key-same q (to q ne) (from q ne) ∙ sym (update-apart (keyIn at place n) g x q ne))
-    (cases-eq q g)
+      (λ (e : q ≡ g). rw e (here ∙ sym (update-here (keyIn at place n) g x)))
+      (λ (ne : q ≡ g → ⊥). key-same q (to q ne) (from q ne) ∙ sym (update-apart (keyIn at place n) g x q ne))
+      (cases-eq q g)
 
 -- a swap takes each entry along
 swap-goes : {W : Type 0} (at at′ : ℕ → Option (HeapEntry W)) (n i j g : ℕ) → i < n → j < n → Swapped at at′ i j → Goes at n at′ n g
 swap-goes at at′ n i j g li lj s k e lt is own = ⊎-elim
-  (λ (ki : k ≡ i). (j, lj, s .right ∙ ap at (sym ki) ∙ is))
-  (λ (nki : k ≡ i → ⊥). ⊎-elim
+    (λ (ki : k ≡ i). (j, lj, s .right ∙ ap at (sym ki) ∙ is))
+    (λ (nki : k ≡ i → ⊥). ⊎-elim
     (λ (kj : k ≡ j). (i, li, s .left ∙ ap at (sym kj) ∙ is))
     (λ (nkj : k ≡ j → ⊥). (k, lt, s .rest k nki nkj ∙ is))
     (cases-eq k j))
-  (cases-eq k i)
+    (cases-eq k i)
 
 pub swap-keys : {W : Type 0} (at at′ : ℕ → Option (HeapEntry W)) (place place′ : ℕ → ℕ) (n i j : ℕ) → i < n → j < n → Agrees at place n → Agrees at′ place′ n → Swapped at at′ i j → Unchanged (keyIn at place n) (keyIn at′ place′ n)
 swap-keys at at′ place place′ n i j li lj was is s g =

@@ -19,7 +19,10 @@ impl<W: Weight> HeapEntry<W> {
     pub fn blank() -> HeapEntry<W>
         ensures { λ r. ⌜ r .group ≡ 0 ⌝ ∗ ⌜ W·Weight .value (r .key) ≡ W·Weight .zero ⌝ }
     {
-        HeapEntry { group: 0, key: W::nothing() }
+        HeapEntry {
+            group: 0,
+            key: W::nothing(),
+        }
     }
 }
 

@@ -12,11 +12,11 @@ ghost use Rattle.queues.specs.Memory.{Enough};
 ghost use Rattle.heaps.specs.Tree.{InOrder, Rising, Sinking, Swapped, Eldest};
 ghost use Rattle.heaps.specs.Entries.{before as ahead};
 ghost use Rattle.heaps.specs.Heaped.{placed, standing, heapKey, Kept, Heaped, Finds, Top};
+use crate::entry::HeapEntry;
 use crate::entry::before;
 use crate::entry::read;
-use crate::entry::HeapEntry;
-use queues::queue::PriorityQueue;
 use queues::queue::GROUPS;
+use queues::queue::PriorityQueue;
 use refusals::Refusal;
 use weights::weight::Weight;
 
@@ -48,7 +48,11 @@ impl<'a, W: Weight> HeapQueue<'a, W> {
         ensures empty { λ r. ⌜ Empty (heapKey r) ⌝ }
         ensures memory { λ r. ⌜ now (r .entries) ≡ now (entries .entry) ⌝ }
     {
-        HeapQueue { entries, count: 0, places: [0; 64] }
+        HeapQueue {
+            entries,
+            count: 0,
+            places: [0; 64],
+        }
     }
 
     // The entry at a place.

@@ -37,7 +37,7 @@ returns g c =
     record {
       sound = c .sift-down .ensures .sound;
       keys = λ e top k.
-        c .sift-down .ensures .keys k
-        ∙ pop-keys (standing after) (placed (after .places)) (after .count) (q .count - 1) (swapped .kept .agrees) (omega arith) e (swapped .swapped .right ∙ top) k
-        ∙ update-ap (heapKey after) (heapKey q) (e .group) k None (swapped .keys);
+          c .sift-down .ensures .keys k
+          ∙ pop-keys (standing after) (placed (after .places)) (after .count) (q .count - 1) (swapped .kept .agrees) (omega arith) e (swapped .swapped .right ∙ top) k
+          ∙ update-ap (heapKey after) (heapKey q) (e .group) k None (swapped .keys);
     }

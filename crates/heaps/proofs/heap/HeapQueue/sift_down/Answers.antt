@@ -19,7 +19,7 @@ returns-then-not-is-before g c =
       sound = record {
         kept = inv .0;
         order = sink-end (before (λ a b. w .le (w .value a) (w .value b))) ranks (standing q) (q .count) (c .loop-child .i) (inv .2)
-          (λ k child lt a b ia kb. ranks .chain b (x .entry) a (eldest .2 k child lt (x .entry) b (x .is) kb) (sym (c .is-before .ensures (x .entry) a (x .is) ia) ∙ c .if-not-is-before .taken));
+            (λ k child lt a b ia kb. ranks .chain b (x .entry) a (eldest .2 k child lt (x .entry) b (x .is) kb) (sym (c .is-before .ensures (x .entry) a (x .is) ia) ∙ c .if-not-is-before .taken));
       };
       keys = inv .3;
     }

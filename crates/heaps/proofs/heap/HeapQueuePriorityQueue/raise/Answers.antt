@@ -13,10 +13,9 @@ replace-requires g c κs =
       sound = c .pre;
       within = found .0;
       heavier = λ e is.
-        let same = one (c .entry-old .ensures) is in
-        let first = one (found .1 .1) is in
-        (
-          sym (found .1 .2) ∙ ap (λ x. x .group) first,
-          rw (sum .0, ← same) (le-sum (g .W·Weight·met .laws) (w .value (old .key)) (w .value (c .args .by)) (sum .1))
-        );
+          let same = one (c .entry-old .ensures) is in
+          let first = one (found .1 .1) is in (
+            sym (found .1 .2) ∙ ap (λ x. x .group) first,
+            rw (sum .0, ← same) (le-sum (g .W·Weight·met .laws) (w .value (old .key)) (w .value (c .args .by)) (sum .1)),
+          );
     }
