@@ -12,7 +12,8 @@ use Rattle.std.specs.shelf.Maps.{update}
 use Rattle.queues.specs.Keys.{Empty, Becomes, Heaviest, Taken}
 use Rattle.queues.specs.Slots.{Best, First, beats}
 use Rattle.queues.proofs.Orders.{Ordered, le-self, le-flip, le-above}
-use Rattle.queues.proofs.Slotted.{update-here, update-else, update-same}
+use Rattle.std.proofs.shelf.Maps.{update-here, update-apart}
+use Rattle.queues.proofs.Slotted.{update-same}
 
 -- no entry is there and not there
 clash : {W P : Type 0} {o : Option W} {v : W} → o ≡ Some v → o ≡ None → P
@@ -36,7 +37,7 @@ best-same le before after same (Some p) b = (
     here = same (p .0) ∙ b .0 .here;
     most = λ h v e. b .0 .most h v (sym (same h) ∙ e);
   },
-  λ h v lt e. b .1 h v lt (sym (same h) ∙ e)
+  λ h v lt e. b .1 h v lt (sym (same h) ∙ e),
 )
 
 module _ {W : Type 0} (le : W → W → Bool) (laws : Ordered le) (before after : ℕ → Option W) (i : ℕ) (past : (k : ℕ) → i ≤ k → before k ≡ None) where
@@ -52,25 +53,24 @@ module _ {W : Type 0} (le : W → W → Bool) (laws : Ordered le) (before after 
     now-there = step i ∙ update-here before i (Some x)
 
     now-else : (k : ℕ) → (k ≡ i → ⊥) → after k ≡ before k
-    now-else k ne = step k ∙ update-else before i k (Some x) ne
+    now-else k ne = step k ∙ update-apart before i (Some x) k ne
 
     now-most : (top : W) → le x top ≡ true → ((h : ℕ) (v : W) → before h ≡ Some v → le v top ≡ true) → (h : ℕ) (v : W) → after h ≡ Some v → le v top ≡ true
     now-most top less most h v e = ⊎-elim
-      (λ (s : h ≡ i). let same : x ≡ v = let a = ap after s in let b = now-there in cc in rw same at less)
-      (λ (ne : h ≡ i → ⊥). most h v (sym (now-else h ne) ∙ e))
-      (cases-eq h i)
+        (λ (s : h ≡ i). let same : x ≡ v = let a = ap after s in let b = now-there in cc in rw same at less)
+        (λ (ne : h ≡ i → ⊥). most h v (sym (now-else h ne) ∙ e))
+        (cases-eq h i)
 
     pub best-keep : (o : Option (ℕ × W)) → Best le before o → beats le o x ≡ false → Best le after o
     best-keep None b e = true-or refl e
     best-keep (Some p) b e =
-      let lt = under (p .0) (p .1) (b .0 .here) in
-      (
-        record {
-          here = now-else (p .0) (λ s. omega arith) ∙ b .0 .here;
-          most = now-most (p .1) (not-beaten (le x (p .1)) e) (b .0 .most);
-        },
-        λ h v before-p there. b .1 h v before-p (sym (now-else h (λ s. omega arith)) ∙ there)
-      )
+        let lt = under (p .0) (p .1) (b .0 .here) in (
+          record {
+            here = now-else (p .0) (λ s. omega arith) ∙ b .0 .here;
+            most = now-most (p .1) (not-beaten (le x (p .1)) e) (b .0 .most);
+          },
+          λ h v before-p there. b .1 h v before-p (sym (now-else h (λ s. omega arith)) ∙ there),
+        )
 
     pub best-new : (o : Option (ℕ × W)) → Best le before o → beats le o x ≡ true → Best le after (Some (i, x))
     best-new None b e = (
@@ -78,17 +78,16 @@ module _ {W : Type 0} (le : W → W → Bool) (laws : Ordered le) (before after 
         here = now-there;
         most = now-most x (le-self laws x) (λ h v there. clash there (b h));
       },
-      λ h v lt there. clash there (now-else h (λ s. omega arith) ∙ b h)
+      λ h v lt there. clash there (now-else h (λ s. omega arith) ∙ b h),
     )
     best-new (Some p) b e =
-      let less = beaten (le x (p .1)) e in
-      (
-        record {
-          here = now-there;
-          most = now-most x (le-self laws x) (λ h v there. laws .trans v (p .1) x (b .0 .most h v there) (le-flip laws x (p .1) less));
-        },
-        λ h v lt there. le-above laws x (p .1) v less (b .0 .most h v (sym (now-else h (λ s. omega arith)) ∙ there))
-      )
+        let less = beaten (le x (p .1)) e in (
+          record {
+            here = now-there;
+            most = now-most x (le-self laws x) (λ h v there. laws .trans v (p .1) x (b .0 .most h v there) (le-flip laws x (p .1) less));
+          },
+          λ h v lt there. le-above laws x (p .1) v less (b .0 .most h v (sym (now-else h (λ s. omega arith)) ∙ there)),
+        )
 
 pub taken-some : {W : Type 0} (le : W → W → Bool) (before after : ℕ → Option W) (o : Option (ℕ × W)) (p : ℕ × W) → o ≡ Some p → Heaviest le before (p .0) (p .1) → Becomes before after (p .0) None → Taken le before after o
 taken-some le before after o p e h b = rw e (h, b)

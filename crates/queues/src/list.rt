@@ -7,9 +7,9 @@ ghost use Rattle.std.specs.declared.option.Option.{Option};
 ghost use Rattle.std.specs.declared.option.Option.the-variants.{Some, None};
 ghost use Rattle.queues.specs.Keys.{Empty, Unchanged, Becomes};
 ghost use Rattle.queues.specs.Memory.{Enough};
-ghost use Rattle.queues.specs.Slots.{held, keyed, waiting, Fits, Within, Reached, Best, beats};
-use crate::queue::PriorityQueue;
+ghost use Rattle.queues.specs.Slots.{held, keyed, waiting, Fits, Spared, Within, Reached, Best, beats};
 use crate::queue::GROUPS;
+use crate::queue::PriorityQueue;
 use refusals::Refusal;
 use weights::weight::Weight;
 
@@ -25,7 +25,10 @@ impl<W: Weight> Slot<W> {
     pub fn empty() -> Slot<W>
         ensures { λ r. ⌜ held r ≡ None ⌝ }
     {
-        Slot { waits: false, key: W::nothing() }
+        Slot {
+            waits: false,
+            key: W::nothing(),
+        }
     }
 }
 
@@ -82,6 +85,7 @@ impl<'a, W: Weight> ListQueue<'a, W> {
         requires within { ⌜ group < 64 ⌝ }
         ensures sound { λ _. ⌜ Fits (length (now (now (self .exit) .slots))) (now (self .exit) .reach) ⌝ }
         ensures key { λ _. ⌜ Becomes (waiting (now (now (self .entry) .slots)) (now (self .entry) .reach)) (waiting (now (now (self .exit) .slots)) (now (self .exit) .reach)) group (Some key) ⌝ }
+        ensures rest { λ _. ⌜ Spared (now (now (self .entry) .slots)) (now (now (self .exit) .slots)) ⌝ }
     {
         self.reach_past(group);
         self.slots[group] = Slot { waits: true, key };
@@ -93,6 +97,7 @@ impl<'a, W: Weight> ListQueue<'a, W> {
         requires reached { ⌜ group < now self .reach ⌝ }
         ensures sound { λ _. ⌜ Fits (length (now (now (self .exit) .slots))) (now (self .exit) .reach) ⌝ }
         ensures key { λ _. ⌜ Becomes (waiting (now (now (self .entry) .slots)) (now (self .entry) .reach)) (waiting (now (now (self .exit) .slots)) (now (self .exit) .reach)) group None ⌝ }
+        ensures rest { λ _. ⌜ Spared (now (now (self .entry) .slots)) (now (now (self .exit) .slots)) ⌝ }
     {
         self.slots[group].waits = false;
     }
@@ -104,7 +109,7 @@ impl<'a, W: Weight> ListQueue<'a, W> {
         ensures sound { λ _. ⌜ Fits (length (now (now (self .exit) .slots))) (now (self .exit) .reach) ⌝ }
         ensures reached { λ _. ⌜ group < now (self .exit) .reach ⌝ }
         ensures same { λ _. ⌜ Unchanged (waiting (now (now (self .entry) .slots)) (now (self .entry) .reach)) (waiting (now (now (self .exit) .slots)) (now (self .exit) .reach)) ⌝ }
-        ensures rest { λ _. ⌜ ((g : ℕ) → 64 ≤ g → keyed (now (now (self .exit) .slots)) g ≡ keyed (now (now (self .entry) .slots)) g) ⌝ }
+        ensures rest { λ _. ⌜ Spared (now (now (self .entry) .slots)) (now (now (self .exit) .slots)) ⌝ }
     {
         if group < self.reach {
             return;

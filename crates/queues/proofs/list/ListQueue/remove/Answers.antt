@@ -1,7 +1,7 @@
 use mathlib.Core.Path.{_≡_}
 use native.Mathlib.Omega.{arith}
 use lib.ListN.{length-set}
-use Rattle.queues.proofs.Slotted.{waiting-set}
+use Rattle.queues.proofs.Slotted.{waiting-set, keyed-rest}
 use Rattle.queues.proofs.list.ListQueue.remove.Needs as need
 
 pub returns : need.returns
@@ -10,4 +10,5 @@ returns g c =
     record {
       sound = (s .0, simp length-set (s .1));
       key = waiting-set (c .args .self .now .slots .now) (c .args .self .now .reach) (c .args .group) _ (c .pre .reached) (omega arith);
+      rest = keyed-rest (c .args .self .now .slots .now) (c .args .group) _ (omega arith) (s .1);
     }

@@ -76,10 +76,9 @@ module _ (γ : Env) (κ : Lft) (W : RattleType) (longer : κ ⊑ W .lives) (w : 
   reach : (τs : Lfts 3) → AllOutlive 3 (clear·trait.ended row W (ghosts W w d) (dict W w d) w d .signature .outlives) τs × AllWithin 2 (τs .1 .0, (τs .1 .1 .0, tt)) (row .lives, (W .lives, tt)) → AllWithin 3 (τs .0, (τs .1 .0, (τs .1 .0, tt))) (at τs) × AllOutlive 3 (clear·own.signature W .outlives) (at τs)
   reach τs h =
       let to-lent : (τs .1 .0) ⊑ κ = ⊑-trans (τs .1 .0) (row .lives) κ (h .1 .0) row-lent in
-      let to-weight : (τs .1 .0) ⊑ (W .lives) = ⊑-trans (τs .1 .0) (row .lives) (W .lives) (h .1 .0) row-weight in
-      (
+      let to-weight : (τs .1 .0) ⊑ (W .lives) = ⊑-trans (τs .1 .0) (row .lives) (W .lives) (h .1 .0) row-weight in (
         (⊑-refl (τs .0), (to-lent, (to-weight, tt))),
-        (⊑-trans (τs .0) (τs .1 .0) κ (h .0 .0) to-lent, (⊑-trans (τs .0) (τs .1 .0) (W .lives) (h .0 .0) to-weight, (longer, tt)))
+        (⊑-trans (τs .0) (τs .1 .0) κ (h .0 .0) to-lent, (⊑-trans (τs .0) (τs .1 .0) (W .lives) (h .0 .0) to-weight, (longer, tt))),
       )
 
   clear-met : Wired γ clear·sym.code → Meets 𝓤 H (𝓖 .A) (clear·trait.signature row W) (𝓡 .run (γ (key 0))) (clear·trait.spec row W (ghosts W w d) (dict W w d) w d 𝓤 H (𝓖 .A) (𝓜 .mem) (𝓡 .returns))
@@ -94,11 +93,11 @@ module _ (γ : Env) (κ : Lft) (W : RattleType) (longer : κ ⊑ W .lives) (w : 
       (λ τs a y. y)
       (λ τs h a y. insides-in 𝓤 1 (W .lives, tt) (W .lives, tt) (clear·trait.requires-1 row W (ghosts W w d) (dict W w d) w d 𝓤 H τs (𝓖 .A) (𝓜 .mem) (𝓡 .returns) (a .0)) (⊑-refl (W .lives), tt))
       (λ τs a y r. hidden 3 (at τs) 𝓤 H (𝓖 .A) (clear·own.signature W .params) (clear·own.ended W w d .kept) (true, tt) a
-        (λ ws. clear·own.clauses W w d 𝓤 H (𝓖 .A) (𝓜 .mem) (𝓡 .returns) (at τs) a .ensures y r (outs {n = 3} (at τs) (clear·own.ended W w d .signature .params) (clear·own.ended W w d .kept) a ws))
-        (λ ws. clear·trait.clauses row W (ghosts W w d) (dict W w d) w d 𝓤 H (𝓖 .A) (𝓜 .mem) (𝓡 .returns) τs a .ensures y r (outs {n = 3} τs (clear·trait.ended row W (ghosts W w d) (dict W w d) w d .signature .params) (clear·trait.ended row W (ghosts W w d) (dict W w d) w d .kept) a ws))
-        (λ _. search ends depth 24 fits 20000))
+      (λ ws. clear·own.clauses W w d 𝓤 H (𝓖 .A) (𝓜 .mem) (𝓡 .returns) (at τs) a .ensures y r (outs {n = 3} (at τs) (clear·own.ended W w d .signature .params) (clear·own.ended W w d .kept) a ws))
+      (λ ws. clear·trait.clauses row W (ghosts W w d) (dict W w d) w d 𝓤 H (𝓖 .A) (𝓜 .mem) (𝓡 .returns) τs a .ensures y r (outs {n = 3} τs (clear·trait.ended row W (ghosts W w d) (dict W w d) w d .signature .params) (clear·trait.ended row W (ghosts W w d) (dict W w d) w d .kept) a ws))
+      (λ _. search ends depth 24 fits 20000))
       (widened 𝓤 H (tripleOf 𝓤 H (𝓖 .A) (clear·own.signature W) (clear·own.spec W w d 𝓤 H (𝓖 .A) (𝓜 .mem) (𝓡 .returns))) 𝓜 𝓡 γ (γ (clear·sym.name (bounded (aType ∷ []) (W, tt) (dcons d dnil)))) (γ (key 0)) (clear·sym.as-method γ wired (key 0) refl)
-        (clear·met.met 𝓤 H 𝓜 𝓖 (within 𝓤 H 𝓜 𝓡 γ) wired W own copy w d met))
+      (clear·met.met 𝓤 H 𝓜 𝓖 (within 𝓤 H 𝓜 𝓡 γ) wired W own copy w d met))
 
   put-met : Wired γ put·sym.code → Meets 𝓤 H (𝓖 .A) (put·trait.signature row W) (𝓡 .run (γ (key 1))) (put·trait.spec row W (ghosts W w d) (dict W w d) w d 𝓤 H (𝓖 .A) (𝓜 .mem) (𝓡 .returns))
   put-met wired =
@@ -112,11 +111,11 @@ module _ (γ : Env) (κ : Lft) (W : RattleType) (longer : κ ⊑ W .lives) (w : 
       (λ τs a y. y)
       (λ τs h a y. insides-in 𝓤 1 (W .lives, tt) (W .lives, tt) (put·trait.requires-1 row W (ghosts W w d) (dict W w d) w d 𝓤 H τs (𝓖 .A) (𝓜 .mem) (𝓡 .returns) (a .0) (a .1 .0) (a .1 .1 .0)) (⊑-refl (W .lives), tt))
       (λ τs a y r. hidden 3 (at τs) 𝓤 H (𝓖 .A) (put·own.signature W .params) (put·own.ended W w d .kept) (true, (true, (true, tt))) a
-        (λ ws. put·own.clauses W w d 𝓤 H (𝓖 .A) (𝓜 .mem) (𝓡 .returns) (at τs) a .ensures y r (outs {n = 3} (at τs) (put·own.ended W w d .signature .params) (put·own.ended W w d .kept) a ws))
-        (λ ws. put·trait.clauses row W (ghosts W w d) (dict W w d) w d 𝓤 H (𝓖 .A) (𝓜 .mem) (𝓡 .returns) τs a .ensures y r (outs {n = 3} τs (put·trait.ended row W (ghosts W w d) (dict W w d) w d .signature .params) (put·trait.ended row W (ghosts W w d) (dict W w d) w d .kept) a ws))
-        (λ _. search ends depth 24 fits 20000))
+      (λ ws. put·own.clauses W w d 𝓤 H (𝓖 .A) (𝓜 .mem) (𝓡 .returns) (at τs) a .ensures y r (outs {n = 3} (at τs) (put·own.ended W w d .signature .params) (put·own.ended W w d .kept) a ws))
+      (λ ws. put·trait.clauses row W (ghosts W w d) (dict W w d) w d 𝓤 H (𝓖 .A) (𝓜 .mem) (𝓡 .returns) τs a .ensures y r (outs {n = 3} τs (put·trait.ended row W (ghosts W w d) (dict W w d) w d .signature .params) (put·trait.ended row W (ghosts W w d) (dict W w d) w d .kept) a ws))
+      (λ _. search ends depth 24 fits 20000))
       (widened 𝓤 H (tripleOf 𝓤 H (𝓖 .A) (put·own.signature W) (put·own.spec W w d 𝓤 H (𝓖 .A) (𝓜 .mem) (𝓡 .returns))) 𝓜 𝓡 γ (γ (put·sym.name (bounded (aType ∷ []) (W, tt) (dcons d dnil)))) (γ (key 1)) (put·sym.as-method γ wired (key 1) refl)
-        (put·met.met 𝓤 H 𝓜 𝓖 (within 𝓤 H 𝓜 𝓡 γ) wired W own copy w d met))
+      (put·met.met 𝓤 H 𝓜 𝓖 (within 𝓤 H 𝓜 𝓡 γ) wired W own copy w d met))
 
   raise-met : Wired γ raise·sym.code → Meets 𝓤 H (𝓖 .A) (raise·trait.signature row W) (𝓡 .run (γ (key 2))) (raise·trait.spec row W (ghosts W w d) (dict W w d) w d 𝓤 H (𝓖 .A) (𝓜 .mem) (𝓡 .returns))
   raise-met wired =
@@ -130,11 +129,11 @@ module _ (γ : Env) (κ : Lft) (W : RattleType) (longer : κ ⊑ W .lives) (w : 
       (λ τs a y. y)
       (λ τs h a y. insides-in 𝓤 1 (W .lives, tt) (W .lives, tt) (raise·trait.requires-1 row W (ghosts W w d) (dict W w d) w d 𝓤 H τs (𝓖 .A) (𝓜 .mem) (𝓡 .returns) (a .0) (a .1 .0) (a .1 .1 .0)) (⊑-refl (W .lives), tt))
       (λ τs a y r. hidden 3 (at τs) 𝓤 H (𝓖 .A) (raise·own.signature W .params) (raise·own.ended W w d .kept) (true, (true, (true, tt))) a
-        (λ ws. raise·own.clauses W w d 𝓤 H (𝓖 .A) (𝓜 .mem) (𝓡 .returns) (at τs) a .ensures y r (outs {n = 3} (at τs) (raise·own.ended W w d .signature .params) (raise·own.ended W w d .kept) a ws))
-        (λ ws. raise·trait.clauses row W (ghosts W w d) (dict W w d) w d 𝓤 H (𝓖 .A) (𝓜 .mem) (𝓡 .returns) τs a .ensures y r (outs {n = 3} τs (raise·trait.ended row W (ghosts W w d) (dict W w d) w d .signature .params) (raise·trait.ended row W (ghosts W w d) (dict W w d) w d .kept) a ws))
-        (λ _. search ends depth 24 fits 20000))
+      (λ ws. raise·own.clauses W w d 𝓤 H (𝓖 .A) (𝓜 .mem) (𝓡 .returns) (at τs) a .ensures y r (outs {n = 3} (at τs) (raise·own.ended W w d .signature .params) (raise·own.ended W w d .kept) a ws))
+      (λ ws. raise·trait.clauses row W (ghosts W w d) (dict W w d) w d 𝓤 H (𝓖 .A) (𝓜 .mem) (𝓡 .returns) τs a .ensures y r (outs {n = 3} τs (raise·trait.ended row W (ghosts W w d) (dict W w d) w d .signature .params) (raise·trait.ended row W (ghosts W w d) (dict W w d) w d .kept) a ws))
+      (λ _. search ends depth 24 fits 20000))
       (widened 𝓤 H (tripleOf 𝓤 H (𝓖 .A) (raise·own.signature W) (raise·own.spec W w d 𝓤 H (𝓖 .A) (𝓜 .mem) (𝓡 .returns))) 𝓜 𝓡 γ (γ (raise·sym.name (bounded (aType ∷ []) (W, tt) (dcons d dnil)))) (γ (key 2)) (raise·sym.as-method γ wired (key 2) refl)
-        (raise·met.met 𝓤 H 𝓜 𝓖 (within 𝓤 H 𝓜 𝓡 γ) wired W own copy w d met))
+      (raise·met.met 𝓤 H 𝓜 𝓖 (within 𝓤 H 𝓜 𝓡 γ) wired W own copy w d met))
 
   take-met : Wired γ take·sym.code → Meets 𝓤 H (𝓖 .A) (take·trait.signature row W) (𝓡 .run (γ (key 3))) (take·trait.spec row W (ghosts W w d) (dict W w d) w d 𝓤 H (𝓖 .A) (𝓜 .mem) (𝓡 .returns))
   take-met wired =
@@ -148,11 +147,11 @@ module _ (γ : Env) (κ : Lft) (W : RattleType) (longer : κ ⊑ W .lives) (w : 
       (λ τs a y. y)
       (λ τs h a y. insides-in 𝓤 1 (W .lives, tt) (W .lives, tt) (take·trait.requires-1 row W (ghosts W w d) (dict W w d) w d 𝓤 H τs (𝓖 .A) (𝓜 .mem) (𝓡 .returns) (a .0)) (⊑-refl (W .lives), tt))
       (λ τs a y r. hidden 3 (at τs) 𝓤 H (𝓖 .A) (take·own.signature W .params) (take·own.ended W w d .kept) (true, tt) a
-        (λ ws. take·own.clauses W w d 𝓤 H (𝓖 .A) (𝓜 .mem) (𝓡 .returns) (at τs) a .ensures y r (outs {n = 3} (at τs) (take·own.ended W w d .signature .params) (take·own.ended W w d .kept) a ws))
-        (λ ws. take·trait.clauses row W (ghosts W w d) (dict W w d) w d 𝓤 H (𝓖 .A) (𝓜 .mem) (𝓡 .returns) τs a .ensures y r (outs {n = 3} τs (take·trait.ended row W (ghosts W w d) (dict W w d) w d .signature .params) (take·trait.ended row W (ghosts W w d) (dict W w d) w d .kept) a ws))
-        (λ _. search ends depth 24 fits 20000))
+      (λ ws. take·own.clauses W w d 𝓤 H (𝓖 .A) (𝓜 .mem) (𝓡 .returns) (at τs) a .ensures y r (outs {n = 3} (at τs) (take·own.ended W w d .signature .params) (take·own.ended W w d .kept) a ws))
+      (λ ws. take·trait.clauses row W (ghosts W w d) (dict W w d) w d 𝓤 H (𝓖 .A) (𝓜 .mem) (𝓡 .returns) τs a .ensures y r (outs {n = 3} τs (take·trait.ended row W (ghosts W w d) (dict W w d) w d .signature .params) (take·trait.ended row W (ghosts W w d) (dict W w d) w d .kept) a ws))
+      (λ _. search ends depth 24 fits 20000))
       (widened 𝓤 H (tripleOf 𝓤 H (𝓖 .A) (take·own.signature W) (take·own.spec W w d 𝓤 H (𝓖 .A) (𝓜 .mem) (𝓡 .returns))) 𝓜 𝓡 γ (γ (take·sym.name (bounded (aType ∷ []) (W, tt) (dcons d dnil)))) (γ (key 3)) (take·sym.as-method γ wired (key 3) refl)
-        (take·met.met 𝓤 H 𝓜 𝓖 (within 𝓤 H 𝓜 𝓡 γ) wired W own copy w d met))
+      (take·met.met 𝓤 H 𝓜 𝓖 (within 𝓤 H 𝓜 𝓡 γ) wired W own copy w d met))
 
 pub bound : statement
 bound γ w₀ w₁ w₂ w₃ κ W own copy longer w d M 𝓤 H 𝓜 𝓖 𝓡 met = record {

@@ -1,0 +1,3 @@
+// A priority queue as a binary heap.
+pub mod entry;
+pub mod heap;
