@@ -67,6 +67,10 @@ module _ {W : Type 0} (le : W → W → Bool) (laws : Ordered le) where
   pub before-le : (a b : HeapEntry W) → before le a b ≡ false → le (a .key) (b .key) ≡ true
   before-le a b e = later (le (a .key) (b .key)) (le (b .key) (a .key)) (a .group) (b .group) e .0
 
+  -- and where it is as heavy its group is not lower
+  pub before-lowest : (a b : HeapEntry W) → before le a b ≡ false → le (b .key) (a .key) ≡ true → b .group ≤ a .group
+  before-lowest a b e = later (le (a .key) (b .key)) (le (b .key) (a .key)) (a .group) (b .group) e .1
+
   -- an entry need not come before itself with a heavier key
   pub before-raised : (a b : HeapEntry W) → a .group ≡ b .group → le (a .key) (b .key) ≡ true → before le a b ≡ false
   before-raised a b same h = later-from (le (a .key) (b .key)) (le (b .key) (a .key)) (a .group) (b .group) h (λ _. omega arith)

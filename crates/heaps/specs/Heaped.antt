@@ -1,6 +1,6 @@
 -- What the entries of a heap and the table of their places mean.
 use mathlib.Core.Path.{_≡_}
-use mathlib.Core.Bool.{Bool, cond}
+use mathlib.Core.Bool.{Bool, true, cond}
 use mathlib.Core.List.{List}
 use Prim.Native.Nat.{ℕ, _≤_, _<_}
 use lib.Dec.{eqb, ltb}
@@ -63,7 +63,11 @@ abbrev pub Finds : {W : Type 0} → HeapQueue W → ℕ → Option ℕ → Type 
 Finds q g None = heapKey q g ≡ None
 Finds {W} q g (Some i) = (i < q .count) × ((e : HeapEntry W) × (standing q i ≡ Some e) × (e .group ≡ g) × (heapKey q g ≡ Some (e .key)))
 
--- the entry at the top is a heaviest one, and there is none exactly where no group waits
+-- no group before g is as heavy as k
+abbrev pub Lowest : {W : Type 0} → (W → W → Bool) → (ℕ → Option W) → ℕ → W → Type 0
+Lowest {W} le key g k = (h : ℕ) (v : W) → key h ≡ Some v → le k v ≡ true → g ≤ h
+
+-- the entry at the top is a heaviest one, of the lowest group, and there is none exactly where no group waits
 abbrev pub Top : {W : Type 0} → (W → W → Bool) → HeapQueue W → Option (HeapEntry W) → Type 0
 Top le q None = Empty (heapKey q)
-Top le q (Some e) = (0 < q .count) × (standing q 0 ≡ Some e) × Heaviest le (heapKey q) (e .group) (e .key)
+Top le q (Some e) = (0 < q .count) × (standing q 0 ≡ Some e) × Heaviest le (heapKey q) (e .group) (e .key) × Lowest le (heapKey q) (e .group) (e .key)

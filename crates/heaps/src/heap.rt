@@ -1,15 +1,14 @@
 // The heap: a queue that keeps its entries in the order of a binary heap.
 ghost use mathlib.Core.Path.{_≡_};
 ghost use mathlib.Core.Bool.{cond, true};
-ghost use Prim.Native.Nat.{ℕ, _+_, _≤_, _<_};
+ghost use Prim.Native.Nat.{ℕ, _≤_, _<_};
 ghost use lib.Dec.{eqb};
 ghost use lib.ListN.{length};
 ghost use denote.Ref.{now};
-ghost use Rattle.std.specs.declared.option.Option.{Option};
 ghost use Rattle.std.specs.declared.option.Option.the-variants.{Some, None};
 ghost use Rattle.queues.specs.Keys.{Empty, Unchanged, Becomes};
 ghost use Rattle.queues.specs.Memory.{Enough};
-ghost use Rattle.heaps.specs.Tree.{InOrder, Rising, Sinking, Swapped, Eldest};
+ghost use Rattle.heaps.specs.Tree.{Rising, Sinking, Swapped, Eldest};
 ghost use Rattle.heaps.specs.Entries.{before as ahead};
 ghost use Rattle.heaps.specs.Heaped.{placed, standing, heapKey, Kept, Heaped, Finds, Top};
 use crate::entry::HeapEntry;
@@ -120,7 +119,7 @@ impl<'a, W: Weight> HeapQueue<'a, W> {
         self.write(j, a);
     }
 
-    // The entry that comes first.
+    // The entry that comes first: a heaviest one, and of these that of the lowest group.
     fn top(&self) -> Option<HeapEntry<W>>
         requires { ⌜ Heaped (λ a b. W·Weight .le (W·Weight .value a) (W·Weight .value b)) (now self) ⌝ }
         ensures { λ r. ⌜ Top (λ a b. W·Weight .le (W·Weight .value a) (W·Weight .value b)) (now (self .entry)) r ⌝ }
