@@ -34,7 +34,7 @@ impl<'a, W: Weight> Filing<'a, W> {
     // A filing with no units, no links and no kept marks; `Plan::check` tells whether the memory suffices.
     pub fn open(links: &'a mut [Link<W>]) -> Filing<'a, W>
         requires { ⌜ 512 ≤ length (now links) ⌝ }
-        ensures { λ r. ⌜ Sound (r .plan) ⌝ }
+        ensures { λ r. ⌜ Sound W·Weight (r .plan) ⌝ }
     {
         Filing {
             plan: Plan::open(links),
@@ -50,8 +50,8 @@ impl<'a, W: Weight> Filing<'a, W> {
 
     // Adds a unit with the given code and answers its number: 7, 8, 6.
     pub fn enter(&mut self, text: &[u8]) -> Result<usize, Refusal>
-        requires { ⌜ Sound (now self .plan) ⌝ }
-        ensures { λ _. ⌜ Sound (now (self .exit) .plan) ⌝ }
+        requires { ⌜ Sound W·Weight (now self .plan) ⌝ }
+        ensures { λ _. ⌜ Sound W·Weight (now (self .exit) .plan) ⌝ }
     {
         let unit = self.plan.enter(text)?;
         self.kept.settle(Edit::Enter);
@@ -60,8 +60,8 @@ impl<'a, W: Weight> Filing<'a, W> {
 
     // Gives a unit another code: 9, 7, 8.
     pub fn recode(&mut self, unit: usize, text: &[u8]) -> Result<(), Refusal>
-        requires { ⌜ Sound (now self .plan) ⌝ }
-        ensures { λ _. ⌜ Sound (now (self .exit) .plan) ⌝ }
+        requires { ⌜ Sound W·Weight (now self .plan) ⌝ }
+        ensures { λ _. ⌜ Sound W·Weight (now (self .exit) .plan) ⌝ }
     {
         self.plan.recode(unit, text)?;
         self.kept.settle(Edit::Recode);
@@ -70,8 +70,8 @@ impl<'a, W: Weight> Filing<'a, W> {
 
     // Replaces the whole plan by that of a sheet, or tells the first fault.
     pub fn read(&mut self, bytes: &[u8]) -> Result<(), Fault>
-        requires { ⌜ Sound (now self .plan) ⌝ }
-        ensures { λ _. ⌜ Sound (now (self .exit) .plan) ⌝ }
+        requires { ⌜ Sound W·Weight (now self .plan) ⌝ }
+        ensures { λ _. ⌜ Sound W·Weight (now (self .exit) .plan) ⌝ }
     {
         read::read(bytes, &mut self.plan)?;
         self.kept.settle(Edit::Read);
@@ -80,8 +80,8 @@ impl<'a, W: Weight> Filing<'a, W> {
 
     // Removes a link; later links move down by one: 13.
     pub fn strike(&mut self, link: usize) -> Result<(), Refusal>
-        requires { ⌜ Sound (now self .plan) ⌝ }
-        ensures { λ _. ⌜ Sound (now (self .exit) .plan) ⌝ }
+        requires { ⌜ Sound W·Weight (now self .plan) ⌝ }
+        ensures { λ _. ⌜ Sound W·Weight (now (self .exit) .plan) ⌝ }
     {
         let old = self.plan.link_at(link)?;
         self.plan.strike(link)?;
@@ -95,8 +95,8 @@ impl<'a, W: Weight> Filing<'a, W> {
 
     // Adds a link in service between two units and answers its number: 9, 10, 11, 6, 12.
     pub fn link(&mut self, first: usize, second: usize, weight: W) -> Result<usize, Refusal>
-        requires { ⌜ Sound (now self .plan) ⌝ }
-        ensures { λ _. ⌜ Sound (now (self .exit) .plan) ⌝ }
+        requires { ⌜ Sound W·Weight (now self .plan) ⌝ }
+        ensures { λ _. ⌜ Sound W·Weight (now (self .exit) .plan) ⌝ }
     {
         let link = self.plan.link(first, second, weight)?;
         self.kept.settle(Edit::Link { first, second });
@@ -105,8 +105,8 @@ impl<'a, W: Weight> Filing<'a, W> {
 
     // Gives a link another weight: 13, 11, 12.
     pub fn reweigh(&mut self, link: usize, weight: W) -> Result<(), Refusal>
-        requires { ⌜ Sound (now self .plan) ⌝ }
-        ensures { λ _. ⌜ Sound (now (self .exit) .plan) ⌝ }
+        requires { ⌜ Sound W·Weight (now self .plan) ⌝ }
+        ensures { λ _. ⌜ Sound W·Weight (now (self .exit) .plan) ⌝ }
     {
         let old = self.plan.link_at(link)?;
         self.plan.reweigh(link, weight)?;
@@ -121,8 +121,8 @@ impl<'a, W: Weight> Filing<'a, W> {
 
     // Sets a link in service (1) or out of service (0): 13, 14.
     pub fn mark(&mut self, link: usize, mark: u8) -> Result<(), Refusal>
-        requires { ⌜ Sound (now self .plan) ⌝ }
-        ensures { λ _. ⌜ Sound (now (self .exit) .plan) ⌝ }
+        requires { ⌜ Sound W·Weight (now self .plan) ⌝ }
+        ensures { λ _. ⌜ Sound W·Weight (now (self .exit) .plan) ⌝ }
     {
         let old = self.plan.link_at(link)?;
         self.plan.mark(link, mark)?;
@@ -138,7 +138,7 @@ impl<'a, W: Weight> Filing<'a, W> {
 
     // The weight of the division that one byte for each unit marks: 15, 14, 15.
     pub fn weigh(&self, marks: &[u8]) -> Result<W, Refusal>
-        requires { ⌜ Sound (now self .plan) ⌝ }
+        requires { ⌜ Sound W·Weight (now self .plan) ⌝ }
     {
         self.plan.weigh(marks)
     }

@@ -3,7 +3,7 @@ ghost use mathlib.Core.Path.{_≡_};
 ghost use Prim.Native.Nat.{ℕ, _+_, _*_, _<_, _≤_};
 ghost use lib.ListN.{length};
 ghost use Rattle.std.specs.shelf.Lists.{Every};
-ghost use Rattle.plans.specs.Sound.{Ends};
+ghost use Rattle.plans.specs.Sound.{Joins};
 use engine::table::add_link;
 use engine::table::clear;
 use plans::plan::Link;
@@ -15,7 +15,7 @@ pub fn fill<W: Weight>(table: &mut [W], n: usize, links: &[Link<W>], marks: &[u8
     requires most { ⌜ n ≤ 64 ⌝ }
     requires size { ⌜ n * n ≤ length (now table) ⌝ }
     requires marks { ⌜ length (now links) ≤ length (now marks) ⌝ }
-    requires ends { ⌜ Every (Ends n) (now links) 0 (length (now links)) ⌝ }
+    requires ends { ⌜ Every (Joins W·Weight n) (now links) 0 (length (now links)) ⌝ }
 {
     clear(table, n * n);
     for i in 0..links.len() {

@@ -3,7 +3,7 @@ ghost use mathlib.Core.Path.{_≡_};
 ghost use Prim.Native.Nat.{ℕ, _*_, _<_, _≤_};
 ghost use lib.ListN.{length, getD, set};
 ghost use Rattle.std.specs.shelf.Lists.{Every};
-ghost use Rattle.plans.specs.Sound.{Ends};
+ghost use Rattle.plans.specs.Sound.{Joins};
 use crate::fill::fill;
 use plans::plan::Link;
 use refusals::Refusal;
@@ -36,7 +36,7 @@ impl<'a> MarkGuard<'a> {
         requires most { ⌜ n ≤ 64 ⌝ }
         requires size { ⌜ n * n ≤ length (now table) ⌝ }
         requires marks { ⌜ length (now links) ≤ length (now (now self .marks)) ⌝ }
-        requires ends { ⌜ Every (Ends n) (now links) 0 (length (now links)) ⌝ }
+        requires ends { ⌜ Every (Joins W·Weight n) (now links) 0 (length (now links)) ⌝ }
     {
         fill(table, n, links, self.marks)
     }
@@ -47,7 +47,7 @@ pub fn fill_without<W: Weight>(table: &mut [W], n: usize, links: &[Link<W>], mar
     requires most { ⌜ n ≤ 64 ⌝ }
     requires size { ⌜ n * n ≤ length (now table) ⌝ }
     requires marks { ⌜ length (now links) ≤ length (now marks) ⌝ }
-    requires ends { ⌜ Every (Ends n) (now links) 0 (length (now links)) ⌝ }
+    requires ends { ⌜ Every (Joins W·Weight n) (now links) 0 (length (now links)) ⌝ }
     requires index { ⌜ index < length (now marks) ⌝ }
     ensures same { λ _. ⌜ now (marks .exit) ≡ now (marks .entry) ⌝ }
 {

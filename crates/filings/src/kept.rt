@@ -1,8 +1,9 @@
 // The marks that a plan keeps of its last weakest division, and what becomes of them by an edit.
 ghost use mathlib.Core.Path.{_≡_};
+ghost use mathlib.Core.Bool.{_&&_, false, true};
 ghost use Prim.Native.Nat.{ℕ, _<_, _≤_};
-ghost use lib.ListN.{length};
-ghost use Rattle.filings.specs.Edits.{Within};
+ghost use lib.ListN.{length, take, drop};
+ghost use Rattle.filings.specs.Edits.{outlives, Within};
 
 // How a new weight compares with the old one.
 #[derive(Clone, Copy)]
@@ -33,9 +34,23 @@ pub struct Kept {
     sides: [u8; 64],
 }
 
+// Copies the first n bytes; the rest stays.
+fn copy(to: &mut [u8], from: &[u8], n: usize)
+    requires to { ⌜ n ≤ length (now to) ⌝ }
+    requires from { ⌜ n ≤ length (now from) ⌝ }
+    ensures front { λ _. ⌜ take n (now (to .exit)) ≡ take n (now (from .entry)) ⌝ }
+    ensures rest { λ _. ⌜ drop n (now (to .exit)) ≡ drop n (now (to .entry)) ⌝ }
+{
+    for i in 0..n {
+        to[i] = from[i];
+    }
+}
+
 impl Kept {
     // No marks are kept.
-    pub fn none() -> Kept {
+    pub fn none() -> Kept
+        ensures { λ r. ⌜ r .kept ≡ false ⌝ }
+    {
         Kept {
             kept: false,
             sides: [0; 64],
@@ -51,6 +66,8 @@ impl Kept {
     // Decides whether kept marks outlive an edit.
     pub fn settle(&mut self, edit: Edit)
         requires { ⌜ Within edit ⌝ }
+        ensures kept { λ _. ⌜ now (self .exit) .kept ≡ (now (self .entry) .kept && outlives (now (self .entry) .sides) edit) ⌝ }
+        ensures sides { λ _. ⌜ now (self .exit) .sides ≡ now (self .entry) .sides ⌝ }
     {
         self.kept = match (self.kept, edit) {
             (false, _) => false,
@@ -72,10 +89,10 @@ impl Kept {
     pub fn keep(&mut self, marks: &[u8], n: usize)
         requires most { ⌜ n ≤ 64 ⌝ }
         requires size { ⌜ n ≤ length (now marks) ⌝ }
+        ensures kept { λ _. ⌜ now (self .exit) .kept ≡ true ⌝ }
+        ensures sides { λ _. ⌜ take n (now (self .exit) .sides) ≡ take n (now (marks .entry)) ⌝ }
     {
-        for unit in 0..n {
-            self.sides[unit] = marks[unit];
-        }
+        copy(&mut self.sides, marks, n);
         self.kept = true;
     }
 
@@ -83,9 +100,9 @@ impl Kept {
     pub fn write(&self, marks: &mut [u8], n: usize)
         requires most { ⌜ n ≤ 64 ⌝ }
         requires size { ⌜ n ≤ length (now marks) ⌝ }
+        ensures front { λ _. ⌜ take n (now (marks .exit)) ≡ take n (now (self .entry) .sides) ⌝ }
+        ensures rest { λ _. ⌜ drop n (now (marks .exit)) ≡ drop n (now (marks .entry)) ⌝ }
     {
-        for unit in 0..n {
-            marks[unit] = self.sides[unit];
-        }
+        copy(marks, &self.sides, n);
     }
 }

@@ -1,2 +1,5 @@
+pub mod Calls
+pub mod Divided
+pub mod Model
 pub mod Shifts
 pub mod Sound

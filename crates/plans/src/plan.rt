@@ -1,7 +1,8 @@
 // What a plan is made of.
 use codes::code::FaultCode;
 
-pub mod edits;
+pub mod entries;
+pub mod links;
 pub mod looks;
 pub mod opens;
 pub mod weighs;

@@ -38,8 +38,8 @@ fn check_links<W: Weight>(cursor: &mut Cursor, head: Head) -> Result<(), Fault> 
 
 // Links two units as the sheet says: in service or out.
 fn load_link<W: Weight>(plan: &mut Plan<W>, link: Link<W>) -> Result<(), Refusal>
-    requires { ⌜ Sound (now plan) ⌝ }
-    ensures { λ _. ⌜ Sound (now (plan .exit)) ⌝ }
+    requires { ⌜ Sound W·Weight (now plan) ⌝ }
+    ensures { λ _. ⌜ Sound W·Weight (now (plan .exit)) ⌝ }
 {
     let at = plan.link(link.first as usize, link.second as usize, link.weight)?;
     plan.mark(at, u8::from(link.in_service))
@@ -47,9 +47,9 @@ fn load_link<W: Weight>(plan: &mut Plan<W>, link: Link<W>) -> Result<(), Refusal
 
 // Makes the plan that a sheet, known to be right, stands for.
 fn load<W: Weight>(cursor: &mut Cursor, head: Head, codes: &[FaultCode], plan: &mut Plan<W>) -> Result<(), Fault>
-    requires sound { ⌜ Sound (now plan) ⌝ }
+    requires sound { ⌜ Sound W·Weight (now plan) ⌝ }
     requires size { ⌜ head .units ≤ length (now codes) ⌝ }
-    ensures { λ _. ⌜ Sound (now (plan .exit)) ⌝ }
+    ensures { λ _. ⌜ Sound W·Weight (now (plan .exit)) ⌝ }
 {
     plan.clear();
     for k in 0..head.units {
@@ -70,8 +70,8 @@ fn load<W: Weight>(cursor: &mut Cursor, head: Head, codes: &[FaultCode], plan: &
 
 // Replaces the whole plan by that of the sheet, or tells the first fault in the order of the bytes and changes nothing.
 pub fn read<W: Weight>(bytes: &[u8], plan: &mut Plan<W>) -> Result<(), Fault>
-    requires { ⌜ Sound (now plan) ⌝ }
-    ensures { λ _. ⌜ Sound (now (plan .exit)) ⌝ }
+    requires { ⌜ Sound W·Weight (now plan) ⌝ }
+    ensures { λ _. ⌜ Sound W·Weight (now (plan .exit)) ⌝ }
 {
     let mut cursor = Cursor::new(bytes);
     let head = read_head::<W>(&mut cursor)?;

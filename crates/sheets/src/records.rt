@@ -3,7 +3,7 @@ ghost use mathlib.Core.Path.{_≡_};
 ghost use Prim.Native.Nat.{ℕ, _+_, _<_, _≤_};
 ghost use lib.ListN.{length};
 ghost use Rattle.std.specs.Vec.{made};
-ghost use Rattle.plans.specs.Sound.{Ends};
+ghost use Rattle.plans.specs.Sound.{Joins};
 use crate::cursor::Cursor;
 use crate::fault::Fault;
 use crate::fault::Part;
@@ -65,7 +65,9 @@ fn read_mark(cursor: &mut Cursor) -> Result<bool, Fault> {
 }
 
 // Reads a weight once all its parts are whole: 11 if it is nothing, 12 if it cannot be made.
-fn read_weight<W: Weight>(cursor: &mut Cursor) -> Result<W, Fault> {
+fn read_weight<W: Weight>(cursor: &mut Cursor) -> Result<W, Fault>
+    ensures { λ r. ⌜ made r (λ w. 0 < W·Weight .size (W·Weight .value w)) ⌝ }
+{
     let place = cursor.place();
     let mut parts = [0u32; 8];
     for i in 0..W::part_count() {
@@ -85,7 +87,7 @@ fn read_weight<W: Weight>(cursor: &mut Cursor) -> Result<W, Fault> {
 // Reads link `k` between the sheet's units: 9, 10, 14, 11, 12. The amounts of the links before it come to `total`.
 pub fn read_link<W: Weight>(cursor: &mut Cursor, units: usize, k: usize, total: u32) -> Result<Link<W>, Fault>
     requires { ⌜ total ≤ 1000000 ⌝ }
-    ensures { λ r. ⌜ made r (λ l. Ends units l × (total + W·Weight .size (W·Weight .value (l .weight)) ≤ 1000000)) ⌝ }
+    ensures { λ r. ⌜ made r (λ l. Joins W·Weight units l × (total + W·Weight .size (W·Weight .value (l .weight)) ≤ 1000000)) ⌝ }
 {
     cursor.enter(Part::Link(k));
     let first = read_end(cursor, units)?;

@@ -87,3 +87,14 @@ pub fn part_at(parts: &[u32], i: usize) -> u32
 {
     if i < parts.len() { parts[i] } else { 0 }
 }
+
+// Both together, where the amounts are known to keep the limit.
+pub fn add<W: Weight>(a: W, b: W) -> W
+    requires { ⌜ W·Weight .size (W·Weight .value a) + W·Weight .size (W·Weight .value b) ≤ limit ⌝ }
+    ensures { λ r. ⌜ W·Weight .value r ≡ W·Weight .plus (W·Weight .value a) (W·Weight .value b) ⌝ }
+{
+    match a.sum(b) {
+        Ok(sum) => sum,
+        Err(_) => unreachable(),
+    }
+}

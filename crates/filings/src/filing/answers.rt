@@ -61,9 +61,9 @@ fn work_out<W: Weight, Q: PriorityQueue<Weight = W>>(queue: &mut Q, table: &mut 
 impl<'a, W: Weight> Filing<'a, W> {
     // The weakest division: 15 below two units, then 17. Kept marks are answered as they are; else they are worked out and kept.
     pub fn weakest<Q: PriorityQueue<Weight = W>>(&mut self, queue: &mut Q, marks: &mut [u8], entries: &mut [Entry], table: &mut [W]) -> Result<Answer<W>, Refusal>
-        requires plan { ⌜ Sound (now self .plan) ⌝ }
+        requires plan { ⌜ Sound W·Weight (now self .plan) ⌝ }
         requires queue { ⌜ Q·PriorityQueue .sound (now queue) ⌝ }
-        ensures plan { λ _. ⌜ Sound (now (self .exit) .plan) ⌝ }
+        ensures plan { λ _. ⌜ Sound W·Weight (now (self .exit) .plan) ⌝ }
         ensures queue { λ _. ⌜ Q·PriorityQueue .sound (now (queue .exit)) ⌝ }
         ensures mergers { λ r. ⌜ made r (λ a. a .mergers ≤ length (now (entries .entry))) ⌝ }
         ensures units { λ r. ⌜ made r (λ _. now (self .entry) .plan .«unit_count» ≤ length (now (marks .entry))) ⌝ }
@@ -95,9 +95,9 @@ impl<'a, W: Weight> Filing<'a, W> {
 
     // The weakest division with one link out of service, never from kept marks and without touching them: 13, 17.
     pub fn trial<Q: PriorityQueue<Weight = W>>(&mut self, link: usize, queue: &mut Q, marks: &mut [u8], entries: &mut [Entry], table: &mut [W]) -> Result<Answer<W>, Refusal>
-        requires plan { ⌜ Sound (now self .plan) ⌝ }
+        requires plan { ⌜ Sound W·Weight (now self .plan) ⌝ }
         requires queue { ⌜ Q·PriorityQueue .sound (now queue) ⌝ }
-        ensures plan { λ _. ⌜ Sound (now (self .exit) .plan) ⌝ }
+        ensures plan { λ _. ⌜ Sound W·Weight (now (self .exit) .plan) ⌝ }
         ensures queue { λ _. ⌜ Q·PriorityQueue .sound (now (queue .exit)) ⌝ }
     {
         let n = self.plan.unit_count();

@@ -1,9 +1,9 @@
-use borrow.Author.Needs.{needs}
-use mathlib.Core.Path.{_≡_, ap, _∙_, sym}
+use mathlib.Core.Path.{_≡_, ap, subst, _∙_, sym}
 use native.Mathlib.Omega.{arith}
 use Prim.Native.Nat.{ℕ, _-_, _<_}
 use lib.ListN.{length, take}
 use Rattle.std.proofs.shelf.Lists.{getD-take, length-take-le}
+use Rattle.plans.specs.Sound.{Joins}
 use Rattle.plans.proofs.plan.Plan.links.Needs as need
 
 pub returns : need.returns
@@ -16,5 +16,7 @@ returns g c =
     record {
       value = ap (λ m. take m xs) z;
       len = len;
-      ends = λ k d low high. let in-it : k < n - 0 = omega arith in rw (getD-take (n - 0) xs k d in-it) (c .pre .ends k d low (omega arith));
+      joins = λ k d low high.
+        let in-it : k < n - 0 = omega arith in
+        subst (Joins (g .W·Weight) (p .«unit_count»)) (sym (getD-take (n - 0) xs k d in-it)) (c .pre .joins k d low (omega arith));
     }

@@ -1,0 +1,13 @@
+pub mod Rules
+pub mod Sums
+pub mod Points
+pub mod Moves
+pub mod Neighbours
+pub mod Ordered
+pub mod Served
+pub mod Counts
+pub mod Names
+pub mod Grounds
+pub mod Mergers
+pub mod Ends
+pub mod Works
