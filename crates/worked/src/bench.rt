@@ -3,6 +3,7 @@ ghost use Prim.Native.Nat.{ℕ, _≤_};
 ghost use Rattle.plans.specs.Sound.{Sound};
 use crate::example::CODES;
 use crate::example::LINKS;
+use crate::example::SHEET;
 use cuts::entry::Entry;
 use cuts::entry::EntryDebug;
 use cuts::entry::EntryPartialEq;
@@ -15,6 +16,7 @@ use queues::list::ListQueuePriorityQueue;
 use queues::list::Slot;
 use refusals::Refusal;
 use refusals::RefusalDebug;
+use sheets::fault::FaultDebug;
 use std::test::*;
 use weights::plain::Plain;
 use weights::plain::PlainWeight;
@@ -79,16 +81,30 @@ pub const KEPT: Seen = Seen {
     kept: true,
 };
 
-// One call.
+// One edit.
 #[derive(Clone, Copy)]
-pub enum Call {
+pub enum Edit {
     Enter([u8; 6]),
     Recode(usize, [u8; 6]),
     Link(usize, usize, u32),
     Strike(usize),
     Reweigh(usize, u32),
     Mark(usize, u8),
-    Weakest,
+}
+
+// One step of a test.
+#[derive(Clone, Copy)]
+pub enum Step {
+    // the plan of four units is read and worked out
+    Begin,
+    // an edit is accepted
+    Make(Edit),
+    // an edit is refused with a number
+    Refuse(Edit, u8),
+    // weakest answers with this kept flag and figure
+    Weakest(bool, u32),
+    // the plan of four units is as it began, and keeps its marks
+    Unchanged,
 }
 
 pub fn entry(low: u8, high: u8, ground: Ground, scan: u8) -> Entry {
@@ -135,28 +151,24 @@ pub fn join(filing: &mut Filing<Plain>, links: &[(usize, usize, u32)]) -> Result
     Ok(())
 }
 
-// Makes one call.
-pub fn make(filing: &mut Filing<Plain>, call: Call) -> Result<(), Refusal>
+// Makes one edit.
+pub fn make(filing: &mut Filing<Plain>, edit: Edit) -> Result<(), Refusal>
     requires { ⌜ Sound (now filing .plan) ⌝ }
     ensures { λ _. ⌜ Sound (now (filing .exit) .plan) ⌝ }
 {
-    match call {
-        Call::Enter(code) => {
+    match edit {
+        Edit::Enter(code) => {
             filing.enter(&code)?;
             Ok(())
         }
-        Call::Recode(unit, code) => filing.recode(unit, &code),
-        Call::Link(first, second, conductors) => {
+        Edit::Recode(unit, code) => filing.recode(unit, &code),
+        Edit::Link(first, second, conductors) => {
             filing.link(first, second, plain(conductors)?)?;
             Ok(())
         }
-        Call::Strike(link) => filing.strike(link),
-        Call::Reweigh(link, conductors) => filing.reweigh(link, plain(conductors)?),
-        Call::Mark(link, mark) => filing.mark(link, mark),
-        Call::Weakest => {
-            weakest(filing)?;
-            Ok(())
-        }
+        Edit::Strike(link) => filing.strike(link),
+        Edit::Reweigh(link, conductors) => filing.reweigh(link, plain(conductors)?),
+        Edit::Mark(link, mark) => filing.mark(link, mark),
     }
 }
 
@@ -199,16 +211,6 @@ pub fn trial(filing: &mut Filing<Plain>, link: usize) -> Result<Seen, Refusal>
     Ok(gathered(answer, marks, record))
 }
 
-// Makes the plan of four units, and works it out.
-pub fn begin(filing: &mut Filing<Plain>) -> Result<Seen, Refusal>
-    requires { ⌜ Sound (now filing .plan) ⌝ }
-    ensures { λ _. ⌜ Sound (now (filing .exit) .plan) ⌝ }
-{
-    enter_units(filing, 4)?;
-    join(filing, &LINKS)?;
-    weakest(filing)
-}
-
 // Whether the plan is the one of four units.
 pub fn is_example(filing: &Filing<Plain>) -> Result<bool, Refusal>
     requires { ⌜ Sound (now filing .plan) ⌝ }
@@ -239,18 +241,16 @@ pub fn worked_out(units: u8, links: &[(usize, usize, u32)]) -> Result<Seen, Refu
     weakest(&mut filing)
 }
 
-// The answer after the plan of four units was worked out and the calls were made.
-pub fn after(calls: &[Call]) -> Result<Seen, Refusal> {
-    let mut memory = [Link::<Plain>::blank(); 512];
-    let mut filing = Filing::open(&mut memory);
-    begin(&mut filing)?;
-    for call in calls {
-        make(&mut filing, *call)?;
-    }
-    weakest(&mut filing)
+// Reads the plan of four units and works it out.
+pub fn begin(filing: &mut Filing<Plain>) -> Result<(), Fail>
+    requires { ⌜ Sound (now filing .plan) ⌝ }
+    ensures { λ _. ⌜ Sound (now (filing .exit) .plan) ⌝ }
+{
+    filing.read(&SHEET)?;
+    check_eq(weakest(filing)?, BEGUN)
 }
 
-// Checks that the plan of four units is as it was made, and still keeps its marks.
+// Checks that the plan of four units is as it began, and keeps its marks.
 pub fn unchanged(filing: &mut Filing<Plain>) -> Result<(), Fail>
     requires { ⌜ Sound (now filing .plan) ⌝ }
     ensures { λ _. ⌜ Sound (now (filing .exit) .plan) ⌝ }
@@ -259,13 +259,42 @@ pub fn unchanged(filing: &mut Filing<Plain>) -> Result<(), Fail>
     check_eq(weakest(filing)?, KEPT)
 }
 
-// The number with which a call on the plan of four units is refused, or 0, once it is seen that the
-// call changed nothing.
-pub fn refused(call: Call) -> Result<u8, Fail> {
+// Checks the kept flag and the figure of weakest.
+fn answers(filing: &mut Filing<Plain>, kept: bool, figure: u32) -> Result<(), Fail>
+    requires { ⌜ Sound (now filing .plan) ⌝ }
+    ensures { λ _. ⌜ Sound (now (filing .exit) .plan) ⌝ }
+{
+    let seen = weakest(filing)?;
+    check_eq((seen.kept, seen.figure), (kept, figure))
+}
+
+fn take(filing: &mut Filing<Plain>, step: Step) -> Result<(), Fail>
+    requires { ⌜ Sound (now filing .plan) ⌝ }
+    ensures { λ _. ⌜ Sound (now (filing .exit) .plan) ⌝ }
+{
+    match step {
+        Step::Begin => begin(filing),
+        Step::Make(edit) => check_eq(number(make(filing, edit)), 0),
+        Step::Refuse(edit, why) => check_eq(number(make(filing, edit)), why),
+        Step::Weakest(kept, figure) => answers(filing, kept, figure),
+        Step::Unchanged => unchanged(filing),
+    }
+}
+
+// Goes through the steps of a test.
+pub fn follow(filing: &mut Filing<Plain>, steps: &[Step]) -> Result<(), Fail>
+    requires { ⌜ Sound (now filing .plan) ⌝ }
+    ensures { λ _. ⌜ Sound (now (filing .exit) .plan) ⌝ }
+{
+    for next in steps {
+        take(filing, *next)?;
+    }
+    Ok(())
+}
+
+// Goes through the steps of a test, from a plan with no units.
+pub fn play(steps: &[Step]) -> Result<(), Fail> {
     let mut memory = [Link::<Plain>::blank(); 512];
     let mut filing = Filing::open(&mut memory);
-    begin(&mut filing)?;
-    let number = number(make(&mut filing, call));
-    unchanged(&mut filing)?;
-    Ok(number)
+    follow(&mut filing, steps)
 }

@@ -1,91 +1,105 @@
-// Sheets that are read, and damaged ones.
-ghost use Prim.Native.Nat.{ℕ, _<_};
+// Damaged sheets: each is refused at its first fault, and the plan stays as it was, with its kept marks.
 use crate::bench::*;
 use crate::example::SHEET;
 use filings::filing::Filing;
 use plans::plan::Link;
 use refusals::Refusal;
 use refusals::RefusalDebug;
+use refusals::RefusalPartialEq;
 use sheets::fault::Fault;
 use sheets::fault::FaultDebug;
 use sheets::fault::FaultPartialEq;
 use sheets::fault::Part;
+use sheets::fault::PartDebug;
+use sheets::fault::PartPartialEq;
 use std::test::*;
 use weights::plain::Plain;
 use weights::plain::PlainWeight;
 
-// The sheet of four units with one byte changed, and U10009 for U10000, so that it would be seen if it were read.
-fn damaged(at: usize, byte: u8) -> [u8; 61]
-    requires { ⌜ at < 61 ⌝ }
-{
+// One byte of the sheet of four units that is changed, how many bytes of the sheet are read, and the fault.
+#[derive(Clone, Copy)]
+struct Damage {
+    at: usize,
+    byte: u8,
+    len: usize,
+    fault: Fault,
+}
+
+fn changed(at: usize, byte: u8, refusal: Refusal, place: usize, part: Part) -> Damage {
+    Damage {
+        at,
+        byte,
+        len: SHEET.len(),
+        fault: Fault {
+            refusal,
+            place,
+            part,
+        },
+    }
+}
+
+// The sheet of four units with one byte changed, and U10009 for U10000, so that a plan read from it is another one.
+fn damaged(at: usize, byte: u8) -> [u8; 61] {
     let mut bytes = SHEET;
     bytes[14] = b'9';
-    bytes[at] = byte;
+    if at < 61 {
+        bytes[at] = byte;
+    }
     bytes
 }
 
-// The fault of a sheet, once it is seen that the plan stays as it was, with its kept marks.
-fn fault(bytes: &[u8]) -> Result<Fault, Fail> {
+// Checks the fault of each damage.
+fn refuses(damages: &[Damage]) -> Result<(), Fail> {
     let mut memory = [Link::<Plain>::blank(); 512];
     let mut filing = Filing::open(&mut memory);
     begin(&mut filing)?;
-    match filing.read(bytes) {
-        Ok(()) => Err(Fail::new("no fault")),
-        Err(fault) => {
-            unchanged(&mut filing)?;
-            Ok(fault)
+    for damage in damages {
+        let bytes = damaged(damage.at, damage.byte);
+        let len = damage.len.min(61);
+        match filing.read(&bytes[0..len]) {
+            Ok(()) => return Err(Fail::new("no fault")),
+            Err(fault) => check_eq(fault, damage.fault)?,
         }
+        unchanged(&mut filing)?;
     }
-}
-
-fn at(refusal: Refusal, place: usize, part: Part) -> Fault {
-    Fault {
-        refusal,
-        place,
-        part,
-    }
-}
-
-// A plan that is read keeps no marks, also where it is the same as before.
-#[test]
-fn four_units() -> Result<(), Fail> {
-    let mut memory = [Link::<Plain>::blank(); 512];
-    let mut filing = Filing::open(&mut memory);
-    filing.read(&SHEET)?;
-    check(is_example(&filing)?)?;
-    check_eq(weakest(&mut filing)?, BEGUN)?;
-    filing.read(&SHEET)?;
-    check_eq(weakest(&mut filing)?, BEGUN)?;
-    unchanged(&mut filing)
+    Ok(())
 }
 
 #[test]
 fn faults_in_the_head() -> Result<(), Fail> {
-    check_eq(fault(&[])?, at(Refusal::Truncated, 0, Part::Head))?;
-    check_eq(fault(&damaged(0, 0x68))?, at(Refusal::NotASheet, 0, Part::Head))?;
-    check_eq(fault(&damaged(4, 1))?, at(Refusal::UnknownIssue, 3, Part::Head))?;
-    check_eq(fault(&damaged(5, 2))?, at(Refusal::OtherKind, 5, Part::Head))?;
-    check_eq(fault(&damaged(6, 65))?, at(Refusal::Full, 6, Part::Head))?;
-    // 4 and 2 × 256 are 516 links
-    check_eq(fault(&damaged(8, 2))?, at(Refusal::Full, 7, Part::Head))
+    refuses(&[
+        changed(0, 0x68, Refusal::NotASheet, 0, Part::Head),
+        changed(4, 1, Refusal::UnknownIssue, 3, Part::Head),
+        changed(5, 2, Refusal::OtherKind, 5, Part::Head),
+        changed(6, 65, Refusal::Full, 6, Part::Head),
+        // 4 and 2 × 256 are 516 links
+        changed(8, 2, Refusal::Full, 7, Part::Head),
+    ])
 }
 
 #[test]
 fn faults_in_units_and_links() -> Result<(), Fail> {
-    check_eq(fault(&damaged(16, 0x61))?, at(Refusal::NotACode, 15, Part::Unit(1)))?;
-    check_eq(fault(&damaged(26, 0x31))?, at(Refusal::CodeTaken, 21, Part::Unit(2)))?;
-    check_eq(fault(&damaged(33, 4))?, at(Refusal::NoSuchUnit, 33, Part::Link(0)))?;
-    check_eq(fault(&damaged(41, 1))?, at(Refusal::SelfLink, 41, Part::Link(1)))?;
-    check_eq(fault(&damaged(56, 2))?, at(Refusal::BadMark, 56, Part::Link(3)))?;
-    check_eq(fault(&damaged(57, 0))?, at(Refusal::NoWeight, 57, Part::Link(3)))?;
-    // 16 × 65,536 is above 1,000,000
-    check_eq(fault(&damaged(59, 16))?, at(Refusal::OverLimit, 57, Part::Link(3)))
+    refuses(&[
+        changed(16, 0x61, Refusal::NotACode, 15, Part::Unit(1)),
+        changed(26, 0x31, Refusal::CodeTaken, 21, Part::Unit(2)),
+        changed(33, 4, Refusal::NoSuchUnit, 33, Part::Link(0)),
+        changed(41, 1, Refusal::SelfLink, 41, Part::Link(1)),
+        changed(56, 2, Refusal::BadMark, 56, Part::Link(3)),
+        changed(57, 0, Refusal::NoWeight, 57, Part::Link(3)),
+        // 16 × 65,536 is above 1,000,000
+        changed(59, 16, Refusal::OverLimit, 57, Part::Link(3)),
+    ])
 }
 
 #[test]
 fn faults_of_length() -> Result<(), Fail> {
-    check_eq(fault(&SHEET[0..12])?, at(Refusal::Truncated, 9, Part::Unit(0)))?;
-    check_eq(fault(&SHEET[0..60])?, at(Refusal::Truncated, 57, Part::Link(3)))?;
-    check_eq(fault(&damaged(7, 5))?, at(Refusal::Truncated, 61, Part::Link(4)))?;
-    check_eq(fault(&damaged(7, 3))?, at(Refusal::TrailingBytes, 54, Part::End))
+    let whole = changed(7, 5, Refusal::Truncated, 61, Part::Link(4));
+    let cut = changed(0, 0x48, Refusal::Truncated, 57, Part::Link(3));
+    let empty = changed(0, 0x48, Refusal::Truncated, 0, Part::Head);
+    refuses(&[
+        whole,
+        Damage { len: 60, ..cut },
+        Damage { len: 0, ..empty },
+        changed(7, 3, Refusal::TrailingBytes, 54, Part::End),
+    ])
 }

@@ -27,34 +27,25 @@ fn beside_kept_marks() -> Result<(), Fail> {
         kept: false,
     };
     check_eq(trial(&mut filing, 2)?, expected)?;
-    unchanged(&mut filing)?;
     check_eq(number(trial(&mut filing, 4)), 13)?;
     unchanged(&mut filing)
 }
 
-// A trial keeps no marks, and may be of a link that is out already.
+// A trial keeps no marks, and may be of a link that is out already: 1–0–3–2 with 3, 2 and 4 is left.
 #[test]
-fn without_kept_marks() -> Result<(), Fail> {
+fn of_a_link_out_of_service() -> Result<(), Fail> {
     let mut memory = [Link::<Plain>::blank(); 512];
     let mut filing = Filing::open(&mut memory);
     enter_units(&mut filing, 4)?;
     join(&mut filing, &LINKS)?;
-    make(&mut filing, Call::Mark(1, 0))?;
-    // 1–0–3–2 with 3, 2 and 4
-    let out = trial(&mut filing, 1)?;
-    check_eq((out.figure, out.kept), (2, false))?;
-    check(!filing.plan().link_at(1)?.in_service)?;
-    // 0–3–2 with 2 and 4, and unit 1 alone
-    let alone = trial(&mut filing, 0)?;
-    check_eq((alone.figure, alone.kept), (0, false))?;
-    check(filing.plan().link_at(0)?.in_service)?;
-    let worked = weakest(&mut filing)?;
-    check_eq((worked.figure, worked.kept), (2, false))
+    filing.mark(1, 0)?;
+    check_eq(trial(&mut filing, 1)?.figure, 2)?;
+    follow(&mut filing, &[Step::Weakest(false, 2)])
 }
 
 // Six marks are lent, and seven units need seven.
 #[test]
-fn short_memory() -> Result<(), Fail> {
+fn in_short_memory() -> Result<(), Fail> {
     let mut memory = [Link::<Plain>::blank(); 512];
     let mut filing = Filing::open(&mut memory);
     enter_units(&mut filing, 7)?;
