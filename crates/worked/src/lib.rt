@@ -1,0 +1,15 @@
+// The plans and calls that `docs/RULES.md` works out, with the results that the rules give, as tests.
+pub mod example;
+
+#[cfg(test)]
+mod answers;
+#[cfg(test)]
+mod bench;
+#[cfg(test)]
+mod edits;
+#[cfg(test)]
+mod keeping;
+#[cfg(test)]
+mod reading;
+#[cfg(test)]
+mod trials;
