@@ -1,0 +1,2 @@
+// What a priority queue's meaning is enough for: a drain of any queue, and a third queue.
+pub mod drain;
