@@ -17,7 +17,11 @@ use weights::plain::Plain;
 use weights::plain::PlainWeight;
 use weights::weight::Weight;
 
-// What `fill` leaves, as it comes out where the lowest group is taken among equals, and the highest.
+// What `fill` puts, and raises by. Then three and two groups are equally heavy.
+const PUT: [(usize, u32); 6] = [(20, 1), (3, 4), (50, 4), (8, 1), (63, 0), (0, 2)];
+const RAISED: [(usize, u32); 2] = [(8, 3), (63, 2)];
+
+// What comes out where the lowest group is taken among equals, and the highest.
 const LOWEST: [(usize, u32); 6] = [(3, 4), (8, 4), (50, 4), (0, 2), (63, 2), (20, 1)];
 const HIGHEST: [(usize, u32); 6] = [(50, 4), (8, 4), (3, 4), (63, 2), (0, 2), (20, 1)];
 
@@ -33,19 +37,17 @@ fn refused<T: Drop>(reply: Result<T, Refusal>) -> u8 {
     }
 }
 
-// Puts six groups and raises two, so that three and two of them are equally heavy.
 fn fill<Q: PriorityQueue<Weight = Plain>>(queue: &mut Q) -> Result<(), Fail>
     requires { ⌜ Q·PriorityQueue .sound (now queue) ⌝ }
     ensures { λ _. ⌜ Q·PriorityQueue .sound (now (queue .exit)) ⌝ }
 {
-    queue.put(20, plain(1)?)?;
-    queue.put(3, plain(4)?)?;
-    queue.put(50, plain(4)?)?;
-    queue.put(8, plain(1)?)?;
-    queue.put(63, plain(0)?)?;
-    queue.put(0, plain(2)?)?;
-    check_eq(queue.raise(8, plain(3)?)?.amount(), 4)?;
-    check_eq(queue.raise(63, plain(2)?)?.amount(), 2)
+    for (group, key) in PUT {
+        queue.put(group, plain(key)?)?;
+    }
+    for (group, by) in RAISED {
+        let _ = queue.raise(group, plain(by)?)?;
+    }
+    Ok(())
 }
 
 // Every refusal, on a queue that is filled.
