@@ -1,1 +1,9 @@
 pub mod Numbers
+pub mod Kinds
+pub mod Links
+pub mod Divisions
+pub mod Groups
+pub mod Tests
+pub mod Scans
+pub mod Records
+pub mod Claims
