@@ -1,3 +1,6 @@
 pub mod Rules
 pub mod Sums
 pub mod Points
+pub mod Moves
+pub mod Neighbours
+pub mod Ordered
