@@ -4,3 +4,4 @@ pub mod Points
 pub mod Moves
 pub mod Neighbours
 pub mod Ordered
+pub mod Served
