@@ -5,3 +5,5 @@ pub mod Moves
 pub mod Neighbours
 pub mod Ordered
 pub mod Served
+pub mod Counts
+pub mod Names
