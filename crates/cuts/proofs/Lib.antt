@@ -7,3 +7,4 @@ pub mod Ordered
 pub mod Served
 pub mod Counts
 pub mod Names
+pub mod Grounds

@@ -1,3 +1,4 @@
-// What an answer consists of: the grounds of mergers and the entries of a record.
+// Grounds of mergers, entries of a record, and the theorems on divisions that make the figure least.
 pub mod entry;
 pub mod ground;
+pub mod theorems;
