@@ -8,3 +8,5 @@ pub mod Served
 pub mod Counts
 pub mod Names
 pub mod Grounds
+pub mod Mergers
+pub mod Ends
