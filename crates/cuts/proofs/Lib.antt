@@ -10,3 +10,4 @@ pub mod Names
 pub mod Grounds
 pub mod Mergers
 pub mod Ends
+pub mod Works
