@@ -11,3 +11,6 @@ pub mod Grounds
 pub mod Mergers
 pub mod Ends
 pub mod Works
+pub mod Facts
+pub mod Finds
+pub mod Alike

@@ -7,3 +7,4 @@ pub mod Tests
 pub mod Scans
 pub mod Records
 pub mod Claims
+pub mod Edits
