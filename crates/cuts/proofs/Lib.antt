@@ -14,3 +14,4 @@ pub mod Works
 pub mod Facts
 pub mod Finds
 pub mod Alike
+pub mod Kept
