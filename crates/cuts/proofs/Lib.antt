@@ -15,3 +15,4 @@ pub mod Facts
 pub mod Finds
 pub mod Alike
 pub mod Kept
+pub mod Brute
