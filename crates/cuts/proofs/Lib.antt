@@ -16,3 +16,5 @@ pub mod Finds
 pub mod Alike
 pub mod Kept
 pub mod Brute
+pub mod Replays
+pub mod Examples

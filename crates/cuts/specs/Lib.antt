@@ -8,3 +8,4 @@ pub mod Scans
 pub mod Records
 pub mod Claims
 pub mod Edits
+pub mod Worked

@@ -3,3 +3,4 @@ pub mod entry;
 pub mod ground;
 pub mod instances;
 pub mod theorems;
+pub mod worked;
