@@ -32,7 +32,7 @@ over-relabel G H f [] h o = tt
 over-relabel G H f (l ∷ ls) h o = (h (l .0) (o .0), h (l .1) (o .1), over-relabel G H f ls h (o .2))
 
 module _ {V : Type 0} (K : Kind V) (laws : Lawful K) (n : ℕ) (ls : List (Link V)) (sound : Sound K n ls) (es : List Entry) (names : Named n es) where
-  over-at : Over (stands n es) (links-at ls es)
+  pub over-at : Over (stands n es) (links-at ls es)
   over-at = over-relabel (λ x. ltb x n) (stands n es) (after es) (served ls) (λ x h. lands n es names x (ltb-true x n h)) (served-over n ls (sound .ends))
 
   -- over units and over groups a division weighs the same

@@ -11,3 +11,10 @@ pub mod Grounds
 pub mod Mergers
 pub mod Ends
 pub mod Works
+pub mod Facts
+pub mod Finds
+pub mod Alike
+pub mod Kept
+pub mod Brute
+pub mod Replays
+pub mod Examples

@@ -70,9 +70,11 @@ module _ {V : Type 0} (K : Kind V) where
   abbrev pub Record-least : Type 0
   Record-least = (n : ℕ) (ls : List (Link V)) → Sound K n ls → 2 ≤ n → (p : Point) → Work K n ls p → ended K n ls p ≡ true → Answers n ls p
 
-  -- a weakest division turned over is a weakest division
+  -- a weakest division turned over, so that unit 0 is not marked, is the same division: it weighs the same and is weakest
   abbrev pub Turned-weakest : Type 0
-  Turned-weakest = (n : ℕ) (ls : List (Link V)) (S : ℕ → Bool) → Weakest K n ls S → Weakest K n ls (turned S) × (weight-of K ls (turned S) ≡ weight-of K ls S)
+  Turned-weakest =
+      (n : ℕ) (ls : List (Link V)) (S : ℕ → Bool) → Weakest K n ls S
+      → (turned S 0 ≡ false) × (weight-of K ls (turned S) ≡ weight-of K ls S) × Weakest K n ls (turned S)
 
   -- plans of n units with the same joint weight for every two units
   abbrev pub Alike : ℕ → List (Link V) → List (Link V) → Type 0

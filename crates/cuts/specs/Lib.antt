@@ -7,3 +7,5 @@ pub mod Tests
 pub mod Scans
 pub mod Records
 pub mod Claims
+pub mod Edits
+pub mod Worked
