@@ -27,18 +27,20 @@ fn four_units() -> Result<(), Fail> {
 
 #[test]
 fn four_units_then_edits() -> Result<(), Fail> {
-    play(&[
-        Step::Begin,
-        Step::Make(Edit::Link(2, 3, 7)),
-        Step::Weakest(true, 3),
-        // 0–3:2 is cut alone then
-        Step::Make(Edit::Strike(1)),
-        Step::Weakest(true, 2),
-        // 1–2:1, 0–3:2 and 0–2:1 lie between 0, 1 and 2, 3; unit 1 alone has 3 + 1, and each other unit 6
-        Step::Begin,
-        Step::Make(Edit::Link(0, 2, 1)),
-        Step::Weakest(false, 4),
-    ])
+    play(
+        &[
+            Step::Begin,
+            Step::Make(Edit::Link(2, 3, 7)),
+            Step::Weakest(true, 3),
+            // 0–3:2 is cut alone then
+            Step::Make(Edit::Strike(1)),
+            Step::Weakest(true, 2),
+            // 1–2:1, 0–3:2 and 0–2:1 lie between 0, 1 and 2, 3; unit 1 alone has 3 + 1, and each other unit 6
+            Step::Begin,
+            Step::Make(Edit::Link(0, 2, 1)),
+            Step::Weakest(false, 4),
+        ],
+    )
 }
 
 // Degrees 10, 11, 2, 11, 10: best is 2. Units 0 and 1 share 10, ground 1; their group weighs 1, the new best.
@@ -55,7 +57,10 @@ fn five_units_in_a_row() -> Result<(), Fail> {
 #[test]
 fn few_units() -> Result<(), Fail> {
     let two = worked_out(2, &[])?;
-    check_eq(two.marks, [0, 1, UNTOUCHED, UNTOUCHED, UNTOUCHED, UNTOUCHED])?;
+    check_eq(
+        two.marks,
+        [0, 1, UNTOUCHED, UNTOUCHED, UNTOUCHED, UNTOUCHED],
+    )?;
     check_eq((two.figure, two.mergers), (0, 0))?;
     check_eq(number(worked_out(1, &[])), 15)?;
     // seven units need seven marks, and six are lent
@@ -68,7 +73,17 @@ fn few_units() -> Result<(), Fail> {
 // 5 is at most 2 × (1 + 2) and 3 at most 2 × (1 + 1): ground 3. It then shares 3 with group 3: ground 1.
 #[test]
 fn three_by_three() -> Result<(), Fail> {
-    let links = [(0, 3, 1), (0, 4, 1), (0, 5, 1), (1, 3, 1), (1, 4, 1), (1, 5, 1), (2, 3, 1), (2, 4, 1), (2, 5, 1)];
+    let links = [
+        (0, 3, 1),
+        (0, 4, 1),
+        (0, 5, 1),
+        (1, 3, 1),
+        (1, 4, 1),
+        (1, 5, 1),
+        (2, 3, 1),
+        (2, 4, 1),
+        (2, 5, 1),
+    ];
     let expected = Seen {
         figure: 3,
         marks: [0, 1, 1, 1, 1, 1],
@@ -96,7 +111,9 @@ fn weakest_ranked(filing: &mut Filing<Ranked>) -> Result<((u32, u32), [u8; 3]), 
     let mut marks = [UNTOUCHED; 3];
     let mut record = [BLANK; 3];
     let mut table = [Ranked::nothing(); 9];
-    let figure = filing.weakest(&mut queue, &mut marks, &mut record, &mut table)?.figure;
+    let figure = filing
+        .weakest(&mut queue, &mut marks, &mut record, &mut table)?
+        .figure;
     Ok(((figure.part(0), figure.part(1)), marks))
 }
 

@@ -35,6 +35,7 @@ pub struct Seen {
 
 // What the memory for marks and for entries holds before a call.
 pub const UNTOUCHED: u8 = 9;
+
 pub const BLANK: Entry = Entry {
     low: UNTOUCHED,
     high: UNTOUCHED,
@@ -101,6 +102,10 @@ pub enum Step {
     Make(Edit),
     // an edit is refused with a number
     Refuse(Edit, u8),
+    // weigh answers so, or is refused with a number
+    Weigh([u8; 4], Result<u32, u8>),
+    // the trial of a link gives this figure, or is refused with a number
+    Trial(usize, Result<u32, u8>),
     // weakest answers with this kept flag and figure
     Weakest(bool, u32),
     // the plan of four units is as it began, and keeps its marks
@@ -222,7 +227,11 @@ pub fn is_example(filing: &Filing<Plain>) -> Result<bool, Refusal>
     }
     for k in 0..4 {
         let link = plan.link_at(k)?;
-        let joint = (link.first as usize, link.second as usize, link.weight.amount());
+        let joint = (
+            link.first as usize,
+            link.second as usize,
+            link.weight.amount(),
+        );
         if units[k].code.text() != &CODES[k] || joint != LINKS[k] || !link.in_service {
             return Ok(false);
         }
@@ -268,6 +277,27 @@ fn answers(filing: &mut Filing<Plain>, kept: bool, figure: u32) -> Result<(), Fa
     check_eq((seen.kept, seen.figure), (kept, figure))
 }
 
+// The weight of a division, or the number of the refusal.
+fn weighed(filing: &Filing<Plain>, marks: &[u8]) -> Result<u32, u8>
+    requires { ⌜ Sound (now filing .plan) ⌝ }
+{
+    match filing.weigh(marks) {
+        Ok(weight) => Ok(weight.amount()),
+        Err(why) => Err(why.number()),
+    }
+}
+
+// The figure with one link out, or the number of the refusal.
+fn tried(filing: &mut Filing<Plain>, link: usize) -> Result<u32, u8>
+    requires { ⌜ Sound (now filing .plan) ⌝ }
+    ensures { λ _. ⌜ Sound (now (filing .exit) .plan) ⌝ }
+{
+    match trial(filing, link) {
+        Ok(seen) => Ok(seen.figure),
+        Err(why) => Err(why.number()),
+    }
+}
+
 fn take(filing: &mut Filing<Plain>, step: Step) -> Result<(), Fail>
     requires { ⌜ Sound (now filing .plan) ⌝ }
     ensures { λ _. ⌜ Sound (now (filing .exit) .plan) ⌝ }
@@ -276,6 +306,8 @@ fn take(filing: &mut Filing<Plain>, step: Step) -> Result<(), Fail>
         Step::Begin => begin(filing),
         Step::Make(edit) => check_eq(number(make(filing, edit)), 0),
         Step::Refuse(edit, why) => check_eq(number(make(filing, edit)), why),
+        Step::Weigh(marks, outcome) => check_eq(weighed(filing, &marks), outcome),
+        Step::Trial(link, outcome) => check_eq(tried(filing, link), outcome),
         Step::Weakest(kept, figure) => answers(filing, kept, figure),
         Step::Unchanged => unchanged(filing),
     }

@@ -67,28 +67,32 @@ fn refuses(damages: &[Damage]) -> Result<(), Fail> {
 
 #[test]
 fn faults_in_the_head() -> Result<(), Fail> {
-    refuses(&[
-        changed(0, 0x68, Refusal::NotASheet, 0, Part::Head),
-        changed(4, 1, Refusal::UnknownIssue, 3, Part::Head),
-        changed(5, 2, Refusal::OtherKind, 5, Part::Head),
-        changed(6, 65, Refusal::Full, 6, Part::Head),
-        // 4 and 2 × 256 are 516 links
-        changed(8, 2, Refusal::Full, 7, Part::Head),
-    ])
+    refuses(
+        &[
+            changed(0, 0x68, Refusal::NotASheet, 0, Part::Head),
+            changed(4, 1, Refusal::UnknownIssue, 3, Part::Head),
+            changed(5, 2, Refusal::OtherKind, 5, Part::Head),
+            changed(6, 65, Refusal::Full, 6, Part::Head),
+            // 4 and 2 × 256 are 516 links
+            changed(8, 2, Refusal::Full, 7, Part::Head),
+        ],
+    )
 }
 
 #[test]
 fn faults_in_units_and_links() -> Result<(), Fail> {
-    refuses(&[
-        changed(16, 0x61, Refusal::NotACode, 15, Part::Unit(1)),
-        changed(26, 0x31, Refusal::CodeTaken, 21, Part::Unit(2)),
-        changed(33, 4, Refusal::NoSuchUnit, 33, Part::Link(0)),
-        changed(41, 1, Refusal::SelfLink, 41, Part::Link(1)),
-        changed(56, 2, Refusal::BadMark, 56, Part::Link(3)),
-        changed(57, 0, Refusal::NoWeight, 57, Part::Link(3)),
-        // 16 × 65,536 is above 1,000,000
-        changed(59, 16, Refusal::OverLimit, 57, Part::Link(3)),
-    ])
+    refuses(
+        &[
+            changed(16, 0x61, Refusal::NotACode, 15, Part::Unit(1)),
+            changed(26, 0x31, Refusal::CodeTaken, 21, Part::Unit(2)),
+            changed(33, 4, Refusal::NoSuchUnit, 33, Part::Link(0)),
+            changed(41, 1, Refusal::SelfLink, 41, Part::Link(1)),
+            changed(56, 2, Refusal::BadMark, 56, Part::Link(3)),
+            changed(57, 0, Refusal::NoWeight, 57, Part::Link(3)),
+            // 16 × 65,536 is above 1,000,000
+            changed(59, 16, Refusal::OverLimit, 57, Part::Link(3)),
+        ],
+    )
 }
 
 #[test]
@@ -96,10 +100,12 @@ fn faults_of_length() -> Result<(), Fail> {
     let whole = changed(7, 5, Refusal::Truncated, 61, Part::Link(4));
     let cut = changed(0, 0x48, Refusal::Truncated, 57, Part::Link(3));
     let empty = changed(0, 0x48, Refusal::Truncated, 0, Part::Head);
-    refuses(&[
-        whole,
-        Damage { len: 60, ..cut },
-        Damage { len: 0, ..empty },
-        changed(7, 3, Refusal::TrailingBytes, 54, Part::End),
-    ])
+    refuses(
+        &[
+            whole,
+            Damage { len: 60, ..cut },
+            Damage { len: 0, ..empty },
+            changed(7, 3, Refusal::TrailingBytes, 54, Part::End),
+        ],
+    )
 }
