@@ -31,7 +31,7 @@ impl<W: Weight> TiedQueue<W> {
         ensures tie { λ r. ⌜ r .tie ≡ tie ⌝ }
     {
         TiedQueue {
-            keys: [None; 64],
+            keys: no_keys(),
             tie,
         }
     }
@@ -76,7 +76,7 @@ pub impl<W: Weight> PriorityQueue for TiedQueue<W> as TiedQueuePriorityQueue {
     ghost key = { λ q. keyed (q .keys) };
 
     fn clear(&mut self) {
-        *self = TiedQueue::new(self.tie);
+        self.keys = no_keys();
     }
 
     fn put(&mut self, group: usize, weight: W) -> Result<(), Refusal> {
@@ -106,6 +106,14 @@ pub impl<W: Weight> PriorityQueue for TiedQueue<W> as TiedQueuePriorityQueue {
         self.keys[group] = None;
         Some((group, key))
     }
+}
+
+// No key for any group.
+fn no_keys<W: Weight>() -> [Option<W>; 64]
+    ensures size { λ r. ⌜ length r ≡ 64 ⌝ }
+    ensures empty { λ r. ⌜ Empty (keyed r) ⌝ }
+{
+    [None; 64]
 }
 
 // Whether the key of a higher group is taken before the best of the lower ones.
