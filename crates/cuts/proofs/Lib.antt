@@ -18,3 +18,4 @@ pub mod Kept
 pub mod Brute
 pub mod Replays
 pub mod Examples
+pub mod Steps
