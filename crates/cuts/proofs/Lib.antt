@@ -19,3 +19,4 @@ pub mod Brute
 pub mod Replays
 pub mod Examples
 pub mod Steps
+pub mod Outcomes
