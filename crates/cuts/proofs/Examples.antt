@@ -46,19 +46,40 @@ module _ {V : Type 0} (K : Kind V) (laws : Lawful K) (c : Worked V) (start : ℕ
 
 pub plain-right : All-right plain plain-cases
 unfolding sum load all-below any-below every divides least-by-trial ends-by-trial meets pair free none-under none-of before first-by-trial order-by-trial complete-by-trial lightest-by-trial allowed after-step all-allowed replayed first-point
-plain-right =
-    (rule plain plain-laws _ 1 (tested 0 1 Unbalanced ∷ tested 0 2 Triangle ∷ []) refl refl refl refl refl refl refl refl refl,
-    (rule plain plain-laws _ 2 (tested 0 1 Heavy ∷ tested 0 2 Heavy ∷ []) refl refl refl refl refl refl refl refl refl,
-    (rule plain plain-laws _ 1 (tested 0 1 Unbalanced ∷ tested 0 2 Triangle ∷ []) refl refl refl refl refl refl refl refl refl,
-    (rule plain plain-laws _ 1 (tested 0 1 Heavy ∷ tested 0 3 Heavy ∷ []) refl refl refl refl refl refl refl refl refl,
-    (rule plain plain-laws _ 1 (tested 0 1 Unbalanced ∷ tested 0 2 Unbalanced ∷ []) refl refl refl refl refl refl refl refl refl,
-    (rule plain plain-laws _ 2 (tested 0 1 Heavy ∷ tested 0 2 Heavy ∷ tested 0 3 Heavy ∷ []) refl refl refl refl refl refl refl refl refl,
-    (rule plain plain-laws _ 0 [] refl refl refl refl refl refl refl refl refl,
-    (rule plain plain-laws _ 1 (tested 0 3 Neighbourhood ∷ tested 0 1 Heavy ∷ tested 0 2 Heavy ∷ []) refl refl refl refl refl refl refl refl refl,
-    (rule plain plain-laws _ 0 (scanning (5 ∷ 2 ∷ 4 ∷ 1 ∷ 3 ∷ 0 ∷ []) ∷ tested 0 2 Triangle ∷ tested 0 1 Triangle ∷ tested 0 3 Heavy ∷ []) refl refl refl refl refl refl refl refl refl,
-    (rule plain plain-laws _ 0 (scanning (0 ∷ 3 ∷ 1 ∷ 4 ∷ 2 ∷ 5 ∷ []) ∷ tested 0 1 Triangle ∷ tested 0 2 Triangle ∷ tested 0 4 Heavy ∷ []) refl refl refl refl refl refl refl refl refl,
-    (rule plain plain-laws _ 1 (scanning (1 ∷ 4 ∷ 5 ∷ 3 ∷ 2 ∷ 0 ∷ []) ∷ tested 0 1 Heavy ∷ []) refl refl refl refl refl refl refl refl refl,
-    tt)))))))))))
+plain-right = (
+  rule plain plain-laws _ 1 (tested 0 1 Unbalanced ∷ tested 0 2 Triangle ∷ []) refl refl refl refl refl refl refl refl refl,
+  (
+    rule plain plain-laws _ 2 (tested 0 1 Heavy ∷ tested 0 2 Heavy ∷ []) refl refl refl refl refl refl refl refl refl,
+    (
+      rule plain plain-laws _ 1 (tested 0 1 Unbalanced ∷ tested 0 2 Triangle ∷ []) refl refl refl refl refl refl refl refl refl,
+      (
+        rule plain plain-laws _ 1 (tested 0 1 Heavy ∷ tested 0 3 Heavy ∷ []) refl refl refl refl refl refl refl refl refl,
+        (
+          rule plain plain-laws _ 1 (tested 0 1 Unbalanced ∷ tested 0 2 Unbalanced ∷ []) refl refl refl refl refl refl refl refl refl,
+          (
+            rule plain plain-laws _ 2 (tested 0 1 Heavy ∷ tested 0 2 Heavy ∷ tested 0 3 Heavy ∷ []) refl refl refl refl refl refl refl refl refl,
+            (
+              rule plain plain-laws _ 0 [] refl refl refl refl refl refl refl refl refl,
+              (
+                rule plain plain-laws _ 1 (tested 0 3 Neighbourhood ∷ tested 0 1 Heavy ∷ tested 0 2 Heavy ∷ []) refl refl refl refl refl refl refl refl refl,
+                (
+                  rule plain plain-laws _ 0 (scanning (5 ∷ 2 ∷ 4 ∷ 1 ∷ 3 ∷ 0 ∷ []) ∷ tested 0 2 Triangle ∷ tested 0 1 Triangle ∷ tested 0 3 Heavy ∷ []) refl refl refl refl refl refl refl refl refl,
+                  (
+                    rule plain plain-laws _ 0 (scanning (0 ∷ 3 ∷ 1 ∷ 4 ∷ 2 ∷ 5 ∷ []) ∷ tested 0 1 Triangle ∷ tested 0 2 Triangle ∷ tested 0 4 Heavy ∷ []) refl refl refl refl refl refl refl refl refl,
+                    (
+                      rule plain plain-laws _ 1 (scanning (1 ∷ 4 ∷ 5 ∷ 3 ∷ 2 ∷ 0 ∷ []) ∷ tested 0 1 Heavy ∷ []) refl refl refl refl refl refl refl refl refl,
+                      tt,
+                    ),
+                  ),
+                ),
+              ),
+            ),
+          ),
+        ),
+      ),
+    ),
+  ),
+)
 
 pub ranked-right : All-right ranked ranked-cases
 unfolding sum load all-below any-below every divides least-by-trial ends-by-trial meets pair free none-under none-of before first-by-trial order-by-trial complete-by-trial lightest-by-trial allowed after-step all-allowed replayed first-point

@@ -20,3 +20,4 @@ pub mod Replays
 pub mod Examples
 pub mod Steps
 pub mod Outcomes
+pub mod Noted

@@ -10,3 +10,4 @@ pub mod Claims
 pub mod Outcomes
 pub mod Edits
 pub mod Worked
+pub mod Noted

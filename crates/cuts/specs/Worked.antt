@@ -72,7 +72,7 @@ plain-cases =
     ∷ case 6 three-by-three 3 (0 ∷ 1 ∷ 1 ∷ 1 ∷ 1 ∷ 1 ∷ []) (entry 0 3 Scan 1 ∷ entry 0 1 Triangle 0 ∷ entry 0 2 Triangle 0 ∷ entry 0 4 Heavy 0 ∷ []) 1
     -- one scan, three mergers
     ∷ case 6 (on 0 2 3 ∷ on 0 3 3 ∷ on 0 4 2 ∷ on 1 2 1 ∷ on 1 3 2 ∷ on 1 4 2 ∷ on 2 5 3 ∷ on 3 5 3 ∷ on 4 5 3 ∷ []) 5 (0 ∷ 1 ∷ 0 ∷ 0 ∷ 0 ∷ 0 ∷ [])
-        (entry 3 5 Scan 1 ∷ entry 3 4 Scan 1 ∷ entry 1 3 Scan 1 ∷ entry 0 1 Heavy 0 ∷ []) 1
+    (entry 3 5 Scan 1 ∷ entry 3 4 Scan 1 ∷ entry 1 3 Scan 1 ∷ entry 0 1 Heavy 0 ∷ []) 1
     ∷ []
 
 abbrev pub ranked-cases : List (Worked (ℕ × ℕ))
