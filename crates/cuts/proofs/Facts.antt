@@ -10,7 +10,7 @@ use Rattle.std.proofs.shelf.Ways.{tells}
 use Rattle.weights.specs.Laws.{limit}
 use Rattle.cuts.specs.declared.entry.Entry.{Entry}
 use Rattle.cuts.specs.Kinds.{Kind, Lawful, AtMost}
-use Rattle.cuts.specs.Links.{Link, sum, load, Sound}
+use Rattle.cuts.specs.Links.{Link, sum, load, total, Ends, Sound}
 use Rattle.cuts.specs.Divisions.{only, weight-of}
 use Rattle.cuts.specs.Groups.{after, group, stands, degree, joint}
 use Rattle.cuts.specs.Scans.{has, key}
@@ -21,6 +21,20 @@ use Rattle.cuts.proofs.Moves.{tie-sym}
 use Rattle.cuts.proofs.Served.{links-at, light-at, degree-deg, joint-tie, key-pull}
 use Rattle.cuts.proofs.Names.{Named, merged, after-more}
 use Rattle.cuts.proofs.Grounds.{over-at}
+
+-- links in service weigh no more than all links
+pub load-total : {V : Type 0} (K : Kind V) (ls : List (Link V)) → load K ls ≤ total K ls
+unfolding load total
+load-total K [] = omega arith
+load-total K (l ∷ ls) = go (l .in-service) (load-total K ls)
+  where
+    go : (b : Bool) → load K ls ≤ total K ls → cond b (K .amount (l .weight)) 0 + load K ls ≤ K .amount (l .weight) + total K ls
+    go true h = omega arith
+    go false h = omega arith
+
+-- a plan within its limit on amounts is sound, whichever of its links are in service
+pub sound-within : {V : Type 0} (K : Kind V) (n : ℕ) (ls : List (Link V)) → Ends n ls → total K ls + total K ls ≤ limit → Sound K n ls
+sound-within K n ls ends h = record { ends = ends; light = omega (arith, load-total K ls) }
 
 -- no sum over links in service comes to more than all of them
 pub sum-amount : {V : Type 0} (K : Kind V) → Lawful K → (test : ℕ → ℕ → Bool) (ls : List (Link V)) → load K ls ≤ limit → K .amount (sum K test ls) ≤ load K ls

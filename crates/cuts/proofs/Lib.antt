@@ -18,3 +18,6 @@ pub mod Kept
 pub mod Brute
 pub mod Replays
 pub mod Examples
+pub mod Steps
+pub mod Outcomes
+pub mod Noted

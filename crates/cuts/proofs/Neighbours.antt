@@ -26,6 +26,9 @@ below-less : (P : ℕ → Bool) (k x : ℕ) → below P k x ≡ true → x < k
 below-less P zero x h = absurd (grind arith)
 below-less P (suc k) x h = let ih = below-less P k x in grind (arith, tells)
 
+pub not-below : (P : ℕ → Bool) (k : ℕ) → below P k k ≡ false
+not-below P k = ⊎-elim (λ t. absurd (omega (arith, below-less P k k t))) (λ f. f) (cases-bool (below P k k))
+
 -- u, v and what passes below k
 abbrev pub around : (ℕ → Bool) → ℕ → ℕ → ℕ → ℕ → Bool
 around P u v k x = eqb x u || (eqb x v || below P k x)
@@ -48,7 +51,7 @@ module _ {V : Type 0} (K : Kind V) (laws : Lawful K) (ls : List (ℕ × ℕ × V
       (both-grow K laws ls light (into (only z) w) (into (only s) w) τ before with-z with-s with-cut h k)
       (weigh-mono K laws ls light (λ x y. into (only s) w x y + before x y) after grows (two-in U S))
 
-  chosen : (u v w : ℕ) → (z : ℕ) × ((z ≡ u) ⊎ (z ≡ v)) × (lesser K (tie K ls u w) (tie K ls v w) ≡ tie K ls z w) × AtMost K (tie K ls z w) (tie K ls u w) × AtMost K (tie K ls z w) (tie K ls v w)
+  pub chosen : (u v w : ℕ) → (z : ℕ) × ((z ≡ u) ⊎ (z ≡ v)) × (lesser K (tie K ls u w) (tie K ls v w) ≡ tie K ls z w) × AtMost K (tie K ls z w) (tie K ls u w) × AtMost K (tie K ls z w) (tie K ls v w)
   chosen u v w =
       ⊎-elim
       (λ (h : K .at-most (tie K ls u w) (tie K ls v w) ≡ true). (u, inl refl, rw h, same K laws _ (fits K laws ls light _ (two-into (only u) w)), h))
@@ -56,7 +59,7 @@ module _ {V : Type 0} (K : Kind V) (laws : Lawful K) (ls : List (ℕ × ℕ × V
       (cases-bool (K .at-most (tie K ls u w) (tie K ls v w)))
 
   -- m is what a rule weighs, which counts links among the members of U, each once, and no more than S cuts
-  abbrev Counted : (ℕ → Bool) → (ℕ → Bool) → V → Type 0
+  abbrev pub Counted : (ℕ → Bool) → (ℕ → Bool) → V → Type 0
   Counted S U m = (σ : ℕ → ℕ → ℕ) × (m ≡ weigh K ls σ) × ((x y : ℕ) → σ x y ≤ within U x y) × AtMost K (weigh K ls σ) (weigh K ls (cutsIn U S))
 
   module _ (S P : ℕ → Bool) (u v : ℕ) (parted : S u ≡ S v → ⊥) (not-u : P u ≡ false) (not-v : P v ≡ false) where
@@ -66,7 +69,7 @@ module _ {V : Type 0} (K : Kind V) (laws : Lawful K) (ls : List (ℕ × ℕ × V
         let z = c .0 in
         let ku : k ≡ u → ⊥ = λ e. grind (arith, ap P e) in
         let kv : k ≡ v → ⊥ = λ e. grind (arith, ap P e) in
-        let out : below P k k ≡ false = ⊎-elim (λ t. absurd (omega (arith, below-less P k k t))) (λ f. f) (cases-bool (below P k k)) in
+        let out = not-below P k in
         let U = λ (x : ℕ). eqb x u || (eqb x v || (eqb x k || below P k x)) in
         let small′ : (x y : ℕ) → into (only z) k x y + σ x y ≤ within U x y = λ x y. omega (arith, small x y, within-more (below P k) z k u v x y (c .1) ku kv out) in
         let two : Two (λ x y. σ x y + into (only z) k x y) = λ x y. omega (arith, small′ x y, within-one U x y) in
@@ -77,7 +80,7 @@ module _ {V : Type 0} (K : Kind V) (laws : Lawful K) (ls : List (ℕ × ℕ × V
           ⊎-elim (λ same. step v (λ e. parted (same ∙ sym e)) (inr refl) (c .4)) (λ far. step u far (inl refl) (c .3)) (differing (S u) (S k)),
         )
 
-    gather-in : (k : ℕ) → Counted S (around P u v k) (gather K ls P u v k)
+    pub gather-in : (k : ℕ) → Counted S (around P u v k) (gather K ls P u v k)
     gather-in zero = (
       into (only u) v,
       refl,

@@ -52,8 +52,8 @@ module _ {V : Type 0} (K : Kind V) where
     pub groups : (k g : ℕ) → k ≤ length es → stands n (take k es) g ≡ true → AtMost K m (degree K ls (take k es) g)
     pub divisions : (S : ℕ → Bool) → Division n S → Whole n es S → AtMost K m (weight-of K ls S)
     pub reached :
-      ((k g : ℕ) × (k ≤ length es) × (stands n (take k es) g ≡ true) × (m ≡ degree K ls (take k es) g))
-      ⊎ ((S : ℕ → Bool) × Division n S × Whole n es S × (m ≡ weight-of K ls S))
+        ((k g : ℕ) × (k ≤ length es) × (stands n (take k es) g ≡ true) × (m ≡ degree K ls (take k es) g))
+        ⊎ ((S : ℕ → Bool) × Division n S × Whole n es S × (m ≡ weight-of K ls S))
 
   -- what holds of a record at whose end the work stands at p
   pub record Answers (n : ℕ) (ls : List (Link V)) (p : Point) : Type 0 where

@@ -7,5 +7,7 @@ pub mod Tests
 pub mod Scans
 pub mod Records
 pub mod Claims
+pub mod Outcomes
 pub mod Edits
 pub mod Worked
+pub mod Noted

@@ -22,6 +22,11 @@ unfoldable pub load : {V : Type 0} → Kind V → List (Link V) → ℕ
 load K [] = 0
 load K (l ∷ ls) = cond (l .in-service) (K .amount (l .weight)) 0 + load K ls
 
+-- the amounts of all links, in service or out
+unfoldable pub total : {V : Type 0} → Kind V → List (Link V) → ℕ
+total K [] = 0
+total K (l ∷ ls) = K .amount (l .weight) + total K ls
+
 -- each link joins units of the plan
 unfoldable pub Ends : {V : Type 0} → ℕ → List (Link V) → Type 0
 Ends n [] = Unit

@@ -2,17 +2,15 @@
 use mathlib.Core.Path.{_≡_}
 use mathlib.Core.List.{List, [], _∷_}
 use mathlib.Core.Bool.{Bool, true, false}
-use Prim.Native.Nat.{ℕ, _<_}
-use lib.Dec.{eqb}
-use lib.ListN.{getD}
+use Prim.Native.Nat.{ℕ}
 use Rattle.weights.specs.Kinds.{plain-plus, plain-le, plain-size, ranked-plus, ranked-le, ranked-size}
 use Rattle.cuts.specs.declared.entry.Entry.{Entry}
 use Rattle.cuts.specs.declared.ground.Ground.{Ground}
 use Rattle.cuts.specs.declared.ground.Ground.the-variants.{Heavy, Unbalanced, Triangle, Neighbourhood, Scan}
 use Rattle.cuts.specs.Kinds.{Kind, kind}
 use Rattle.cuts.specs.Links.{Link}
-use Rattle.cuts.specs.Divisions.{turned, weight-of, Weakest}
-use Rattle.cuts.specs.Records.{Point, best-weight, ended, Work}
+use Rattle.cuts.specs.Divisions.{weight-of, Weakest}
+use Rattle.cuts.specs.Outcomes.{marking, Outcome}
 
 pub record Worked (V : Type 0) : Type 0 where
   pub units : ℕ
@@ -23,22 +21,12 @@ pub record Worked (V : Type 0) : Type 0 where
   pub entries : List Entry
   pub scans : ℕ
 
--- the division that marks give
-abbrev pub marking : List ℕ → ℕ → Bool
-marking marks x = eqb (getD marks x 0) 1
-
 pub record Right {V : Type 0} (K : Kind V) (c : Worked V) : Type 0 where
   -- no division weighs less than the one of the marks, which weighs the figure
   pub weakest : Weakest K (c .units) (c .links) (marking (c .marks))
   pub weighs : weight-of K (c .links) (marking (c .marks)) ≡ c .figure
-  -- the work allows the record, and ends with it, the figure and the marks
-  pub end : Point
-  pub allowed : Work K (c .units) (c .links) end
-  pub ends : ended K (c .units) (c .links) end ≡ true
-  pub figure : best-weight K (c .units) (c .links) end ≡ c .figure
-  pub marks : (x : ℕ) → x < c .units → turned (end .best) x ≡ marking (c .marks) x
-  pub entries : end .done ≡ c .entries
-  pub scans : end .scans ≡ c .scans
+  -- the work allows the record, and ends so
+  pub outcome : Outcome K (c .units) (c .links) (c .figure) (c .marks) (c .entries) (c .scans)
 
 abbrev pub All-right : {V : Type 0} → Kind V → List (Worked V) → Type 0
 All-right K [] = Unit
@@ -84,7 +72,7 @@ plain-cases =
     ∷ case 6 three-by-three 3 (0 ∷ 1 ∷ 1 ∷ 1 ∷ 1 ∷ 1 ∷ []) (entry 0 3 Scan 1 ∷ entry 0 1 Triangle 0 ∷ entry 0 2 Triangle 0 ∷ entry 0 4 Heavy 0 ∷ []) 1
     -- one scan, three mergers
     ∷ case 6 (on 0 2 3 ∷ on 0 3 3 ∷ on 0 4 2 ∷ on 1 2 1 ∷ on 1 3 2 ∷ on 1 4 2 ∷ on 2 5 3 ∷ on 3 5 3 ∷ on 4 5 3 ∷ []) 5 (0 ∷ 1 ∷ 0 ∷ 0 ∷ 0 ∷ 0 ∷ [])
-        (entry 3 5 Scan 1 ∷ entry 3 4 Scan 1 ∷ entry 1 3 Scan 1 ∷ entry 0 1 Heavy 0 ∷ []) 1
+    (entry 3 5 Scan 1 ∷ entry 3 4 Scan 1 ∷ entry 1 3 Scan 1 ∷ entry 0 1 Heavy 0 ∷ []) 1
     ∷ []
 
 abbrev pub ranked-cases : List (Worked (ℕ × ℕ))

@@ -1,6 +1,8 @@
 // Why the figure is least: each function's contract is a theorem, for every kind of weights that shows the laws.
 ghost use Rattle.cuts.specs.Kinds.{kind};
 ghost use Rattle.cuts.specs.Claims.{Grounds-safe, Scan-safe, Scan-merges, Record-least, Turned-weakest, Alike-same};
+ghost use Rattle.cuts.specs.Outcomes.{Outcome-promised};
+ghost use Rattle.cuts.specs.Noted.{Noted-same};
 ghost use Rattle.cuts.specs.Edits.{Change-keeps, Edits-keep};
 use weights::weight::Weight;
 
@@ -29,6 +31,20 @@ pub fn scan_merges<W: Weight>() -> u8
 // figure is the least among the degrees of the groups so far and the weights of divisions that keep the groups whole.
 pub fn record_is_least<W: Weight>() -> u8
     ensures { λ _. ⌜ Record-least (kind (W·Weight .zero) (W·Weight .plus) (W·Weight .le) (W·Weight .size)) ⌝ }
+{
+    0
+}
+
+// The promise of an answer: figure and marks are those of a weakest division, and the record shows it.
+pub fn outcome_is_promised<W: Weight>() -> u8
+    ensures { λ _. ⌜ Outcome-promised (kind (W·Weight .zero) (W·Weight .plus) (W·Weight .le) (W·Weight .size)) ⌝ }
+{
+    0
+}
+
+// Merging the found pairs, or only those that join two classes, comes to the same.
+pub fn noted_is_same<W: Weight>() -> u8
+    ensures { λ _. ⌜ Noted-same (kind (W·Weight .zero) (W·Weight .plus) (W·Weight .le) (W·Weight .size)) ⌝ }
 {
     0
 }

@@ -1,6 +1,6 @@
 use mathlib.Core.Path.{sym}
 use mathlib.Core.List.{[], _∷_}
-use Rattle.cuts.specs.Worked.{marking}
+use Rattle.cuts.specs.Outcomes.{marking}
 use Rattle.cuts.proofs.Examples.{plain-right}
 use Rattle.cuts.proofs.worked.four_units.Needs as need
 
