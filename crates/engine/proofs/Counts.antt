@@ -28,13 +28,13 @@ marks-past ws g (suc n) b h =
 pub marks-less : (ws : List Bool) (g n : ℕ) → g < n → g < length ws → getD ws g false ≡ true → marks (set ws g false) n < marks ws n
 marks-less ws g zero lt room was = absurd (omega arith)
 marks-less ws g (suc n) lt room was = ⊎-elim
-  (λ (e : n ≡ g).
+    (λ (e : n ≡ g).
     let same = marks-past ws g n false (omega arith) in
     let a : bit (getD ws n false) ≡ 1 = ap (λ i. bit (getD ws i false)) e ∙ ap bit was in
     let b : bit (getD (set ws g false) n false) ≡ 0 = ap (λ i. bit (getD (set ws g false) i false)) e ∙ ap bit (getD-set-same ws g false false room) in
     omega arith)
-  (λ (ne : n ≡ g → ⊥).
+    (λ (ne : n ≡ g → ⊥).
     let r = marks-less ws g n (⊎-elim (λ (l : g < n). l) (λ (m : n ≤ g). absurd (ne (omega arith))) (cases-lt g n)) room was in
     let b : bit (getD (set ws g false) n false) ≡ bit (getD ws n false) = ap bit (getD-set-other ws g n false false ne) in
     omega arith)
-  (cases-eq n g)
+    (cases-eq n g)

@@ -30,18 +30,18 @@ waits-none n key ws e g k some = never (key g) k some (e g)
 module _ {W : Type 0} (n : ℕ) (before after : ℕ → Option W) (ws : List Bool) (w : Waits n before ws) (g : ℕ) where
   pub waits-put : g < n → g < length ws → (x : W) → Becomes before after g (Some x) → Waits n after (set ws g true)
   waits-put lt room x b q k some = ⊎-elim
-    (λ (e : q ≡ g). (omega arith, subst (λ i. getD (set ws g true) i false ≡ true) (sym e) (getD-set-same ws g true false room)))
-    (λ (ne : q ≡ g → ⊥). let was = w q k (sym (becomes-other before after g (Some x) b q ne) ∙ some) in (was .0, getD-set-other ws g q true false ne ∙ was .1))
-    (cases-eq q g)
+      (λ (e : q ≡ g). (omega arith, subst (λ i. getD (set ws g true) i false ≡ true) (sym e) (getD-set-same ws g true false room)))
+      (λ (ne : q ≡ g → ⊥). let was = w q k (sym (becomes-other before after g (Some x) b q ne) ∙ some) in (was .0, getD-set-other ws g q true false ne ∙ was .1))
+      (cases-eq q g)
 
   pub waits-raise : (old x : W) → before g ≡ Some old → Becomes before after g (Some x) → Waits n after ws
   waits-raise old x was b q k some = ⊎-elim
-    (λ (e : q ≡ g). subst (λ i. (i < n) × (getD ws i false ≡ true)) (sym e) (w g old was))
-    (λ (ne : q ≡ g → ⊥). w q k (sym (becomes-other before after g (Some x) b q ne) ∙ some))
-    (cases-eq q g)
+      (λ (e : q ≡ g). subst (λ i. (i < n) × (getD ws i false ≡ true)) (sym e) (w g old was))
+      (λ (ne : q ≡ g → ⊥). w q k (sym (becomes-other before after g (Some x) b q ne) ∙ some))
+      (cases-eq q g)
 
   pub waits-take : Becomes before after g None → Waits n after (set ws g false)
   waits-take b q k some = ⊎-elim
-    (λ (e : q ≡ g). never (after q) k some (subst (λ i. after i ≡ None) (sym e) (becomes-here before after g None b)))
-    (λ (ne : q ≡ g → ⊥). let was = w q k (sym (becomes-other before after g None b q ne) ∙ some) in (was .0, getD-set-other ws g q false false ne ∙ was .1))
-    (cases-eq q g)
+      (λ (e : q ≡ g). never (after q) k some (subst (λ i. after i ≡ None) (sym e) (becomes-here before after g None b)))
+      (λ (ne : q ≡ g → ⊥). let was = w q k (sym (becomes-other before after g None b q ne) ∙ some) in (was .0, getD-set-other ws g q false false ne ∙ was .1))
+      (cases-eq q g)

@@ -51,7 +51,13 @@ fn lightest<W: Weight>(table: &[W], n: usize) -> usize
 }
 
 // Adds the row of `high` to that of `low`; the degree of `low` becomes that of both.
-fn merge_rows<W: Weight>(table: &mut [W], groups: &Groups, n: usize, low: usize, high: usize) -> Result<(), Refusal>
+fn merge_rows<W: Weight>(
+    table: &mut [W],
+    groups: &Groups,
+    n: usize,
+    low: usize,
+    high: usize,
+) -> Result<(), Refusal>
     requires units { ⌜ now groups .units ≡ n ⌝ }
     requires size { ⌜ n * n ≤ length (now table) ⌝ }
     requires low { ⌜ low < n ⌝ }
@@ -77,7 +83,15 @@ fn merge_rows<W: Weight>(table: &mut [W], groups: &Groups, n: usize, low: usize,
 }
 
 // Merges the two groups of an entry and writes it. The merged group becomes best if its degree is strictly lighter.
-fn merge<W: Weight>(table: &mut [W], groups: &mut Groups, n: usize, merger: Entry, progress: &mut Progress<W>, marks: &mut [u8], entries: &mut [Entry]) -> Result<(), Refusal>
+fn merge<W: Weight>(
+    table: &mut [W],
+    groups: &mut Groups,
+    n: usize,
+    merger: Entry,
+    progress: &mut Progress<W>,
+    marks: &mut [u8],
+    entries: &mut [Entry],
+) -> Result<(), Refusal>
     requires units { ⌜ now groups .units ≡ n ⌝ }
     requires left { ⌜ 0 < now groups .left ⌝ }
     requires size { ⌜ n * n ≤ length (now table) ⌝ }
@@ -104,7 +118,15 @@ fn merge<W: Weight>(table: &mut [W], groups: &mut Groups, n: usize, merger: Entr
 }
 
 // Merges the pairs that a scan found, in the order found, while work goes on.
-fn merge_found<W: Weight>(table: &mut [W], groups: &mut Groups, n: usize, found: &Found, progress: &mut Progress<W>, marks: &mut [u8], entries: &mut [Entry]) -> Result<(), Refusal>
+fn merge_found<W: Weight>(
+    table: &mut [W],
+    groups: &mut Groups,
+    n: usize,
+    found: &Found,
+    progress: &mut Progress<W>,
+    marks: &mut [u8],
+    entries: &mut [Entry],
+) -> Result<(), Refusal>
     requires units { ⌜ now groups .units ≡ n ⌝ }
     requires found { ⌜ now found .classes .units ≡ n ⌝ }
     requires size { ⌜ n * n ≤ length (now table) ⌝ }
@@ -138,7 +160,15 @@ fn merge_found<W: Weight>(table: &mut [W], groups: &mut Groups, n: usize, found:
 }
 
 // One round: the first pair that meets a test is merged, or else the pairs that a scan finds.
-fn round<W: Weight, Q: PriorityQueue<Weight = W>>(queue: &mut Q, table: &mut [W], groups: &mut Groups, n: usize, progress: &mut Progress<W>, marks: &mut [u8], entries: &mut [Entry]) -> Result<(), Refusal>
+fn round<W: Weight, Q: PriorityQueue<Weight = W>>(
+    queue: &mut Q,
+    table: &mut [W],
+    groups: &mut Groups,
+    n: usize,
+    progress: &mut Progress<W>,
+    marks: &mut [u8],
+    entries: &mut [Entry],
+) -> Result<(), Refusal>
     requires sound { ⌜ Q·PriorityQueue .sound (now queue) ⌝ }
     requires units { ⌜ now groups .units ≡ n ⌝ }
     requires left { ⌜ 0 < now groups .left ⌝ }
@@ -171,7 +201,13 @@ fn round<W: Weight, Q: PriorityQueue<Weight = W>>(queue: &mut Q, table: &mut [W]
 }
 
 // Works out the least weight of a division over the n units of the table, and marks such a division.
-pub fn contract<W: Weight, Q: PriorityQueue<Weight = W>>(queue: &mut Q, table: &mut [W], n: usize, marks: &mut [u8], entries: &mut [Entry]) -> Result<Progress<W>, Refusal>
+pub fn contract<W: Weight, Q: PriorityQueue<Weight = W>>(
+    queue: &mut Q,
+    table: &mut [W],
+    n: usize,
+    marks: &mut [u8],
+    entries: &mut [Entry],
+) -> Result<Progress<W>, Refusal>
     requires sound { ⌜ Q·PriorityQueue .sound (now queue) ⌝ }
     requires some { ⌜ 2 ≤ n ⌝ }
     requires most { ⌜ n ≤ 64 ⌝ }

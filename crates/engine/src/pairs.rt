@@ -38,7 +38,13 @@ pub fn is_unbalanced<W: Weight>(table: &[W], n: usize, u: usize, v: usize) -> Re
 }
 
 // Triangle: with some third group, each degree is at most twice what joins it to the other two.
-pub fn is_triangle<W: Weight>(table: &[W], groups: &Groups, n: usize, u: usize, v: usize) -> Result<bool, Refusal>
+pub fn is_triangle<W: Weight>(
+    table: &[W],
+    groups: &Groups,
+    n: usize,
+    u: usize,
+    v: usize,
+) -> Result<bool, Refusal>
     requires units { ⌜ now groups .units ≡ n ⌝ }
     requires size { ⌜ n * n ≤ length (now table) ⌝ }
     requires u { ⌜ u < n ⌝ }
@@ -66,7 +72,14 @@ pub fn is_triangle<W: Weight>(table: &[W], groups: &Groups, n: usize, u: usize, 
 }
 
 // Neighbourhood: the joint weight, and for each third group the lesser of what joins it to the two, come to best.
-pub fn is_neighbourhood<W: Weight>(table: &[W], groups: &Groups, n: usize, best: W, u: usize, v: usize) -> Result<bool, Refusal>
+pub fn is_neighbourhood<W: Weight>(
+    table: &[W],
+    groups: &Groups,
+    n: usize,
+    best: W,
+    u: usize,
+    v: usize,
+) -> Result<bool, Refusal>
     requires units { ⌜ now groups .units ≡ n ⌝ }
     requires size { ⌜ n * n ≤ length (now table) ⌝ }
     requires u { ⌜ u < n ⌝ }
@@ -89,7 +102,14 @@ pub fn is_neighbourhood<W: Weight>(table: &[W], groups: &Groups, n: usize, best:
 }
 
 // The lowest ground on which the pair may be merged, if any.
-pub fn ground_of<W: Weight>(table: &[W], groups: &Groups, n: usize, best: W, u: usize, v: usize) -> Result<Option<Ground>, Refusal>
+pub fn ground_of<W: Weight>(
+    table: &[W],
+    groups: &Groups,
+    n: usize,
+    best: W,
+    u: usize,
+    v: usize,
+) -> Result<Option<Ground>, Refusal>
     requires units { ⌜ now groups .units ≡ n ⌝ }
     requires size { ⌜ n * n ≤ length (now table) ⌝ }
     requires u { ⌜ u < n ⌝ }
@@ -111,7 +131,12 @@ pub fn ground_of<W: Weight>(table: &[W], groups: &Groups, n: usize, best: W, u: 
 }
 
 // The first pair, in order of the lower group and then the higher, that meets a test, with its lowest ground.
-pub fn first_pair<W: Weight>(table: &[W], groups: &Groups, n: usize, best: W) -> Result<Option<(usize, usize, Ground)>, Refusal>
+pub fn first_pair<W: Weight>(
+    table: &[W],
+    groups: &Groups,
+    n: usize,
+    best: W,
+) -> Result<Option<(usize, usize, Ground)>, Refusal>
     requires units { ⌜ now groups .units ≡ n ⌝ }
     requires size { ⌜ n * n ≤ length (now table) ⌝ }
     ensures { λ r. ⌜ made r (λ o. Cases o (Unit {0}) (λ p. (p .0 < p .1) × (p .1 < n))) ⌝ }

@@ -13,7 +13,12 @@ use refusals::Refusal;
 use weights::weight::Weight;
 
 // Puts every group that stands, with nothing for its key, and marks it.
-fn put_all<W: Weight, Q: PriorityQueue<Weight = W>>(queue: &mut Q, groups: &Groups, n: usize, waiting: &mut [bool]) -> Result<(), Refusal>
+fn put_all<W: Weight, Q: PriorityQueue<Weight = W>>(
+    queue: &mut Q,
+    groups: &Groups,
+    n: usize,
+    waiting: &mut [bool],
+) -> Result<(), Refusal>
     requires sound { ⌜ Q·PriorityQueue .sound (now queue) ⌝ }
     requires empty { ⌜ Empty (Q·PriorityQueue .key (now queue)) ⌝ }
     requires units { ⌜ now groups .units ≡ n ⌝ }
@@ -32,7 +37,15 @@ fn put_all<W: Weight, Q: PriorityQueue<Weight = W>>(queue: &mut Q, groups: &Grou
 }
 
 // Raises each group that waits by its joint weight with v, lowest first, and notes the pairs whose key comes to best.
-fn raise_all<W: Weight, Q: PriorityQueue<Weight = W>>(queue: &mut Q, table: &[W], n: usize, waiting: &[bool], v: usize, best: W, found: &mut Found) -> Result<(), Refusal>
+fn raise_all<W: Weight, Q: PriorityQueue<Weight = W>>(
+    queue: &mut Q,
+    table: &[W],
+    n: usize,
+    waiting: &[bool],
+    v: usize,
+    best: W,
+    found: &mut Found,
+) -> Result<(), Refusal>
     requires sound { ⌜ Q·PriorityQueue .sound (now queue) ⌝ }
     requires waits { ⌜ Waits n (Q·PriorityQueue .key (now queue)) (now waiting) ⌝ }
     requires most { ⌜ n ≤ 64 ⌝ }
@@ -61,7 +74,13 @@ fn raise_all<W: Weight, Q: PriorityQueue<Weight = W>>(queue: &mut Q, table: &[W]
 }
 
 // One scan of the groups that stand. It finds the pairs whose key comes to best, and leaves the queue empty.
-pub fn scan<W: Weight, Q: PriorityQueue<Weight = W>>(queue: &mut Q, table: &[W], groups: &Groups, n: usize, best: W) -> Result<Found, Refusal>
+pub fn scan<W: Weight, Q: PriorityQueue<Weight = W>>(
+    queue: &mut Q,
+    table: &[W],
+    groups: &Groups,
+    n: usize,
+    best: W,
+) -> Result<Found, Refusal>
     requires sound { ⌜ Q·PriorityQueue .sound (now queue) ⌝ }
     requires units { ⌜ now groups .units ≡ n ⌝ }
     requires size { ⌜ n * n ≤ length (now table) ⌝ }

@@ -50,7 +50,13 @@ pub fn clear<W: Weight>(table: &mut [W], entries: usize)
 }
 
 // A link of the given weight between two units: their joint weight and both degrees grow by it.
-pub fn add_link<W: Weight>(table: &mut [W], n: usize, a: usize, b: usize, weight: W) -> Result<(), Refusal>
+pub fn add_link<W: Weight>(
+    table: &mut [W],
+    n: usize,
+    a: usize,
+    b: usize,
+    weight: W,
+) -> Result<(), Refusal>
     requires most { ⌜ n ≤ 64 ⌝ }
     requires row { ⌜ a < n ⌝ }
     requires column { ⌜ b < n ⌝ }

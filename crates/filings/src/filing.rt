@@ -129,10 +129,20 @@ impl<'a, W: Weight> Filing<'a, W> {
         let first = old.first as usize;
         let second = old.second as usize;
         let in_service = old.in_service;
-        self.kept.settle(match mark {
-            0 => Edit::Out { first, second, in_service },
-            _ => Edit::In { first, second, in_service },
-        });
+        self.kept.settle(
+            match mark {
+                0 => Edit::Out {
+                    first,
+                    second,
+                    in_service,
+                },
+                _ => Edit::In {
+                    first,
+                    second,
+                    in_service,
+                },
+            },
+        );
         Ok(())
     }
 

@@ -11,7 +11,12 @@ use refusals::Refusal;
 use weights::weight::Weight;
 
 // The table of n units gets the links whose mark, which stands beside them, is 1.
-pub fn fill<W: Weight>(table: &mut [W], n: usize, links: &[Link<W>], marks: &[u8]) -> Result<(), Refusal>
+pub fn fill<W: Weight>(
+    table: &mut [W],
+    n: usize,
+    links: &[Link<W>],
+    marks: &[u8],
+) -> Result<(), Refusal>
     requires most { ⌜ n ≤ 64 ⌝ }
     requires size { ⌜ n * n ≤ length (now table) ⌝ }
     requires marks { ⌜ length (now links) ≤ length (now marks) ⌝ }
@@ -23,7 +28,13 @@ pub fn fill<W: Weight>(table: &mut [W], n: usize, links: &[Link<W>], marks: &[u8
             continue;
         }
         let link = links[i];
-        add_link(table, n, link.first as usize, link.second as usize, link.weight)?;
+        add_link(
+            table,
+            n,
+            link.first as usize,
+            link.second as usize,
+            link.weight,
+        )?;
     }
     Ok(())
 }

@@ -43,7 +43,13 @@ impl<'a> MarkGuard<'a> {
 }
 
 // Fills the weight table with one link out of service, whatever its mark; the marks end as they were.
-pub fn fill_without<W: Weight>(table: &mut [W], n: usize, links: &[Link<W>], marks: &mut [u8], index: usize) -> Result<(), Refusal>
+pub fn fill_without<W: Weight>(
+    table: &mut [W],
+    n: usize,
+    links: &[Link<W>],
+    marks: &mut [u8],
+    index: usize,
+) -> Result<(), Refusal>
     requires most { ⌜ n ≤ 64 ⌝ }
     requires size { ⌜ n * n ≤ length (now table) ⌝ }
     requires marks { ⌜ length (now links) ≤ length (now marks) ⌝ }

@@ -19,12 +19,28 @@ pub enum Edit {
     Enter,
     Read,
     Recode,
-    Link { first: usize, second: usize },
+    Link {
+        first: usize,
+        second: usize,
+    },
     // strike, and mark 0
-    Out { first: usize, second: usize, in_service: bool },
+    Out {
+        first: usize,
+        second: usize,
+        in_service: bool,
+    },
     // mark 1
-    In { first: usize, second: usize, in_service: bool },
-    Reweigh { first: usize, second: usize, in_service: bool, change: Change },
+    In {
+        first: usize,
+        second: usize,
+        in_service: bool,
+    },
+    Reweigh {
+        first: usize,
+        second: usize,
+        in_service: bool,
+        change: Change,
+    },
 }
 
 // Whether marks are kept, and the side of each unit.
@@ -73,14 +89,56 @@ impl Kept {
             (false, _) => false,
             (true, Edit::Recode) => true,
             (true, Edit::Link { first, second }) if self.sides[first] == self.sides[second] => true,
-            (true, Edit::Out { in_service: false, .. }) => true,
-            (true, Edit::Out { first, second, .. }) if self.sides[first] != self.sides[second] => true,
-            (true, Edit::In { in_service: true, .. }) => true,
-            (true, Edit::In { first, second, .. }) if self.sides[first] == self.sides[second] => true,
-            (true, Edit::Reweigh { in_service: false, .. }) => true,
-            (true, Edit::Reweigh { change: Change::Equal, .. }) => true,
-            (true, Edit::Reweigh { first, second, change: Change::Heavier, .. }) if self.sides[first] == self.sides[second] => true,
-            (true, Edit::Reweigh { first, second, change: Change::Lighter, .. }) if self.sides[first] != self.sides[second] => true,
+            (
+                true,
+                Edit::Out {
+                    in_service: false,
+                    ..
+                },
+            ) => true,
+            (true, Edit::Out { first, second, .. }) if self.sides[first] != self.sides[second] =>
+                true,
+            (
+                true,
+                Edit::In {
+                    in_service: true,
+                    ..
+                },
+            ) => true,
+            (true, Edit::In { first, second, .. }) if self.sides[first] == self.sides[second] =>
+                true,
+            (
+                true,
+                Edit::Reweigh {
+                    in_service: false,
+                    ..
+                },
+            ) => true,
+            (
+                true,
+                Edit::Reweigh {
+                    change: Change::Equal,
+                    ..
+                },
+            ) => true,
+            (
+                true,
+                Edit::Reweigh {
+                    first,
+                    second,
+                    change: Change::Heavier,
+                    ..
+                },
+            ) if self.sides[first] == self.sides[second] => true,
+            (
+                true,
+                Edit::Reweigh {
+                    first,
+                    second,
+                    change: Change::Lighter,
+                    ..
+                },
+            ) if self.sides[first] != self.sides[second] => true,
             _ => false,
         };
     }

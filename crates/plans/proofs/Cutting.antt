@@ -76,9 +76,9 @@ module _ {W : Type 0} (g : Ghosts W) (T : ℕ → ℕ → Bool) where
           record {
             fits = let z = ap (g .size) is ∙ laws .amounts acc (g .value (l .weight)) (omega arith) in omega arith;
             whole =
-              ap (λ v. g .plus v (cutOf (drop (i + 1) all))) is
-              ∙ (laws .assoc acc (g .value (l .weight)) (cutOf (drop (i + 1) all)) (omega arith)
-              ∙ (ap (g .plus acc) (sym e ∙ ap cutOf (sym here)) ∙ a .whole));
+                ap (λ v. g .plus v (cutOf (drop (i + 1) all))) is
+                ∙ (laws .assoc acc (g .value (l .weight)) (cutOf (drop (i + 1) all)) (omega arith)
+                ∙ (ap (g .plus acc) (sym e ∙ ap cutOf (sym here)) ∙ a .whole));
           }
 
     pub adding-all : (all : List (Link W)) (i : ℕ) (acc : g .Value) → length all ≤ i → Adding all i acc → acc ≡ cutOf all

@@ -57,12 +57,12 @@ module _ {W : Type 0} (g : Ghosts W) (p : Plan W) (s : Sound g p) where
         module _ (some : amountOf g w ≡ 0 → ⊥) where
           pub full : 512 ≤ p .«link_count» → linkVerdict (modelOf p) g a b w ≡ Some Full
           full h = passes NoSuchUnit _ ends ∙ (passes SelfLink _ (ap not (ne-eqb a b ab)) ∙ (passes NoWeight _ (ap not (ne-eqb (amountOf g w) 0 some))
-            ∙ fails Full _ (le-ltb (length (modelOf p .links)) 512 (rw link-size h))))
+              ∙ fails Full _ (le-ltb (length (modelOf p .links)) 512 (rw link-size h))))
 
           module _ (room : p .«link_count» < 512) where
             before-total : linkVerdict (modelOf p) g a b w ≡ check (leb (totalOf g (modelOf p .links) + amountOf g w) 1000000) OverLimit accepted
             before-total = passes NoSuchUnit _ ends ∙ (passes SelfLink _ (ap not (ne-eqb a b ab)) ∙ (passes NoWeight _ (ap not (ne-eqb (amountOf g w) 0 some))
-              ∙ passes Full _ (lt-ltb (length (modelOf p .links)) 512 (rw link-size room))))
+                ∙ passes Full _ (lt-ltb (length (modelOf p .links)) 512 (rw link-size room))))
 
             pub over : 1000000 < p .total + amountOf g w → linkVerdict (modelOf p) g a b w ≡ Some OverLimit
             over h = before-total ∙ fails OverLimit _ (lt-leb (totalOf g (modelOf p .links) + amountOf g w) 1000000 (rw (sym (s .counted)) h))

@@ -9,6 +9,7 @@ pub mod weighs;
 
 // A plan has at most so many units, and so many links.
 pub const UNITS: usize = 64;
+
 pub const LINKS: usize = 512;
 
 // The amounts of all links of a plan, in service or out, add up to at most this.

@@ -9,10 +9,10 @@ use cuts::entry::Entry;
 use cuts::ground::Ground;
 use filings::answer::Answer;
 use filings::filing::Filing;
-use plans::plan::Link;
-use plans::plan::Unit;
 use plans::plan::LINKS;
+use plans::plan::Link;
 use plans::plan::UNITS;
+use plans::plan::Unit;
 use queues::list::ListQueue;
 use queues::list::ListQueuePriorityQueue;
 use queues::list::Slot;
@@ -94,7 +94,12 @@ fn report_as<W: Weight>(heap: Global, bytes: &[u8]) -> Result<String, AnyError> 
         return Ok(text);
     }
     let mut queue = ListQueue::over(slots.as_mut_slice());
-    match filing.weakest(&mut queue, marks.as_mut_slice(), entries.as_mut_slice(), table.as_mut_slice()) {
+    match filing.weakest(
+        &mut queue,
+        marks.as_mut_slice(),
+        entries.as_mut_slice(),
+        table.as_mut_slice(),
+    ) {
         Err(refusal) => {
             let number = refusal.number();
             writeln!(text, "{number}")?;

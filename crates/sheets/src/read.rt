@@ -6,8 +6,8 @@ ghost use Rattle.std.specs.Vec.{made};
 ghost use Rattle.plans.specs.Sound.{Sound};
 use crate::cursor::Cursor;
 use crate::fault::Fault;
-use crate::head::read_head;
 use crate::head::Head;
+use crate::head::read_head;
 use crate::records::read_code;
 use crate::records::read_link;
 use codes::code::FaultCode;
@@ -46,7 +46,12 @@ fn load_link<W: Weight>(plan: &mut Plan<W>, link: Link<W>) -> Result<(), Refusal
 }
 
 // Makes the plan that a sheet, known to be right, stands for.
-fn load<W: Weight>(cursor: &mut Cursor, head: Head, codes: &[FaultCode], plan: &mut Plan<W>) -> Result<(), Fault>
+fn load<W: Weight>(
+    cursor: &mut Cursor,
+    head: Head,
+    codes: &[FaultCode],
+    plan: &mut Plan<W>,
+) -> Result<(), Fault>
     requires sound { ⌜ Sound W·Weight (now plan) ⌝ }
     requires size { ⌜ head .units ≤ length (now codes) ⌝ }
     ensures { λ _. ⌜ Sound W·Weight (now (plan .exit)) ⌝ }

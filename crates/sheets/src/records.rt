@@ -8,8 +8,8 @@ use crate::cursor::Cursor;
 use crate::fault::Fault;
 use crate::fault::Part;
 use crate::head::Issue;
-use codes::code::reading::SameCode;
 use codes::code::FaultCode;
+use codes::code::reading::SameCode;
 use plans::plan::Link;
 use plans::plan::TOTAL;
 use refusals::Refusal;
@@ -24,7 +24,12 @@ fn characters(issue: Issue, field: &[u8]) -> &[u8] {
 }
 
 // Reads the code of unit `k`: 7 if it is none, 8 if one of the first `k` codes is the same.
-pub fn read_code(cursor: &mut Cursor, issue: Issue, earlier: &[FaultCode], k: usize) -> Result<FaultCode, Fault>
+pub fn read_code(
+    cursor: &mut Cursor,
+    issue: Issue,
+    earlier: &[FaultCode],
+    k: usize,
+) -> Result<FaultCode, Fault>
     requires { ⌜ k ≤ length (now earlier) ⌝ }
 {
     cursor.enter(Part::Unit(k));
@@ -85,7 +90,12 @@ fn read_weight<W: Weight>(cursor: &mut Cursor) -> Result<W, Fault>
 }
 
 // Reads link `k` between the sheet's units: 9, 10, 14, 11, 12. The amounts of the links before it come to `total`.
-pub fn read_link<W: Weight>(cursor: &mut Cursor, units: usize, k: usize, total: u32) -> Result<Link<W>, Fault>
+pub fn read_link<W: Weight>(
+    cursor: &mut Cursor,
+    units: usize,
+    k: usize,
+    total: u32,
+) -> Result<Link<W>, Fault>
     requires { ⌜ total ≤ 1000000 ⌝ }
     ensures { λ r. ⌜ made r (λ l. Joins W·Weight units l × (total + W·Weight .size (W·Weight .value (l .weight)) ≤ 1000000)) ⌝ }
 {

@@ -2,9 +2,9 @@
 ghost use Prim.Native.Nat.{ℕ, _≤_};
 ghost use Rattle.weights.specs.Kinds.{plain-tag, plain-plus, plain-le, plain-size, plain-of, plain-nth};
 ghost use Rattle.weights.specs.Laws.{limit};
-use crate::weight::part_at;
 use crate::weight::LIMIT;
 use crate::weight::Weight;
+use crate::weight::part_at;
 use refusals::Refusal;
 
 #[derive(Clone, Copy)]
@@ -15,6 +15,7 @@ pub struct Plain {
 
 pub impl Weight for Plain as PlainWeight {
     const KIND: u8 = 1;
+
     const PARTS: usize = 1;
 
     ghost Value = { ℕ };

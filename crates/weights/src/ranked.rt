@@ -2,9 +2,9 @@
 ghost use Prim.Native.Nat.{ℕ, _+_, _≤_};
 ghost use Rattle.weights.specs.Kinds.{ranked-tag, ranked-plus, ranked-le, ranked-size, ranked-of, ranked-nth};
 ghost use Rattle.weights.specs.Laws.{limit};
-use crate::weight::part_at;
 use crate::weight::LIMIT;
 use crate::weight::Weight;
+use crate::weight::part_at;
 use refusals::Refusal;
 
 #[derive(Clone, Copy)]
@@ -16,6 +16,7 @@ pub struct Ranked {
 
 pub impl Weight for Ranked as RankedWeight {
     const KIND: u8 = 2;
+
     const PARTS: usize = 2;
 
     ghost Value = { ℕ × ℕ };
@@ -47,7 +48,10 @@ pub impl Weight for Ranked as RankedWeight {
     }
 
     fn nothing() -> Ranked {
-        Ranked { safety: 0, other: 0 }
+        Ranked {
+            safety: 0,
+            other: 0,
+        }
     }
 
     fn sum(self, other: Ranked) -> Result<Ranked, Refusal> {
@@ -56,7 +60,10 @@ pub impl Weight for Ranked as RankedWeight {
         if safety + rest > LIMIT {
             return Err(Refusal::OverLimit);
         }
-        Ok(Ranked { safety, other: rest })
+        Ok(Ranked {
+            safety,
+            other: rest,
+        })
     }
 
     fn at_most(self, other: Ranked) -> bool {

@@ -1,5 +1,6 @@
 // Weakest divisions, worked out by hand.
 ghost use Rattle.plans.specs.Sound.{Sound};
+ghost use Rattle.weights.specs.contracts.ranked.RankedWeight.the-impl.{ghosts as rankedKind};
 use crate::bench::*;
 use crate::example::LINKS;
 use crate::example::RANKED_SHEET;
@@ -104,7 +105,7 @@ fn three_by_three() -> Result<(), Fail> {
 
 // The parts of the figure, and the marks.
 fn weakest_ranked(filing: &mut Filing<Ranked>) -> Result<((u32, u32), [u8; 3]), Refusal>
-    requires { ⌜ Sound (now filing .plan) ⌝ }
+    requires { ⌜ Sound rankedKind (now filing .plan) ⌝ }
 {
     let mut slots = [Slot::<Ranked>::empty(); 64];
     let mut queue = ListQueue::over(&mut slots);

@@ -1,6 +1,7 @@
 // What the tests share: filings over memory of their own, and what is seen of them.
 ghost use Prim.Native.Nat.{ℕ, _≤_};
 ghost use Rattle.plans.specs.Sound.{Sound};
+ghost use Rattle.weights.specs.contracts.plain.PlainWeight.the-impl.{ghosts as plainKind};
 use crate::example::CODES;
 use crate::example::LINKS;
 use crate::example::SHEET;
@@ -135,9 +136,9 @@ pub fn plain(conductors: u32) -> Result<Plain, Refusal> {
 
 // Enters units U10000, U10001 and so on.
 pub fn enter_units(filing: &mut Filing<Plain>, count: u8) -> Result<(), Refusal>
-    requires sound { ⌜ Sound (now filing .plan) ⌝ }
+    requires sound { ⌜ Sound plainKind (now filing .plan) ⌝ }
     requires few { ⌜ count ≤ 100 ⌝ }
-    ensures { λ _. ⌜ Sound (now (filing .exit) .plan) ⌝ }
+    ensures { λ _. ⌜ Sound plainKind (now (filing .exit) .plan) ⌝ }
 {
     for k in 0..count {
         filing.enter(&[b'U', b'1', b'0', b'0', b'0' + k / 10, b'0' + k % 10])?;
@@ -147,8 +148,8 @@ pub fn enter_units(filing: &mut Filing<Plain>, count: u8) -> Result<(), Refusal>
 
 // Makes each link in turn.
 pub fn join(filing: &mut Filing<Plain>, links: &[(usize, usize, u32)]) -> Result<(), Refusal>
-    requires { ⌜ Sound (now filing .plan) ⌝ }
-    ensures { λ _. ⌜ Sound (now (filing .exit) .plan) ⌝ }
+    requires { ⌜ Sound plainKind (now filing .plan) ⌝ }
+    ensures { λ _. ⌜ Sound plainKind (now (filing .exit) .plan) ⌝ }
 {
     for (first, second, conductors) in links {
         filing.link(*first, *second, plain(*conductors)?)?;
@@ -158,8 +159,8 @@ pub fn join(filing: &mut Filing<Plain>, links: &[(usize, usize, u32)]) -> Result
 
 // Makes one edit.
 pub fn make(filing: &mut Filing<Plain>, edit: Edit) -> Result<(), Refusal>
-    requires { ⌜ Sound (now filing .plan) ⌝ }
-    ensures { λ _. ⌜ Sound (now (filing .exit) .plan) ⌝ }
+    requires { ⌜ Sound plainKind (now filing .plan) ⌝ }
+    ensures { λ _. ⌜ Sound plainKind (now (filing .exit) .plan) ⌝ }
 {
     match edit {
         Edit::Enter(code) => {
@@ -190,8 +191,8 @@ fn gathered(answer: Answer<Plain>, marks: [u8; 6], record: [Entry; 6]) -> Seen {
 
 // The weakest division, by the list queue.
 pub fn weakest(filing: &mut Filing<Plain>) -> Result<Seen, Refusal>
-    requires { ⌜ Sound (now filing .plan) ⌝ }
-    ensures { λ _. ⌜ Sound (now (filing .exit) .plan) ⌝ }
+    requires { ⌜ Sound plainKind (now filing .plan) ⌝ }
+    ensures { λ _. ⌜ Sound plainKind (now (filing .exit) .plan) ⌝ }
 {
     let mut slots = [Slot::<Plain>::empty(); 64];
     let mut queue = ListQueue::over(&mut slots);
@@ -204,8 +205,8 @@ pub fn weakest(filing: &mut Filing<Plain>) -> Result<Seen, Refusal>
 
 // The weakest division with one link out, by the list queue.
 pub fn trial(filing: &mut Filing<Plain>, link: usize) -> Result<Seen, Refusal>
-    requires { ⌜ Sound (now filing .plan) ⌝ }
-    ensures { λ _. ⌜ Sound (now (filing .exit) .plan) ⌝ }
+    requires { ⌜ Sound plainKind (now filing .plan) ⌝ }
+    ensures { λ _. ⌜ Sound plainKind (now (filing .exit) .plan) ⌝ }
 {
     let mut slots = [Slot::<Plain>::empty(); 64];
     let mut queue = ListQueue::over(&mut slots);
@@ -218,7 +219,7 @@ pub fn trial(filing: &mut Filing<Plain>, link: usize) -> Result<Seen, Refusal>
 
 // Whether the plan is the one of four units.
 pub fn is_example(filing: &Filing<Plain>) -> Result<bool, Refusal>
-    requires { ⌜ Sound (now filing .plan) ⌝ }
+    requires { ⌜ Sound plainKind (now filing .plan) ⌝ }
 {
     let plan = filing.plan();
     let units = plan.units();
@@ -252,8 +253,8 @@ pub fn worked_out(units: u8, links: &[(usize, usize, u32)]) -> Result<Seen, Refu
 
 // Reads the plan of four units and works it out.
 pub fn begin(filing: &mut Filing<Plain>) -> Result<(), Fail>
-    requires { ⌜ Sound (now filing .plan) ⌝ }
-    ensures { λ _. ⌜ Sound (now (filing .exit) .plan) ⌝ }
+    requires { ⌜ Sound plainKind (now filing .plan) ⌝ }
+    ensures { λ _. ⌜ Sound plainKind (now (filing .exit) .plan) ⌝ }
 {
     filing.read(&SHEET)?;
     check_eq(weakest(filing)?, BEGUN)
@@ -261,8 +262,8 @@ pub fn begin(filing: &mut Filing<Plain>) -> Result<(), Fail>
 
 // Checks that the plan of four units is as it began, and keeps its marks.
 pub fn unchanged(filing: &mut Filing<Plain>) -> Result<(), Fail>
-    requires { ⌜ Sound (now filing .plan) ⌝ }
-    ensures { λ _. ⌜ Sound (now (filing .exit) .plan) ⌝ }
+    requires { ⌜ Sound plainKind (now filing .plan) ⌝ }
+    ensures { λ _. ⌜ Sound plainKind (now (filing .exit) .plan) ⌝ }
 {
     check(is_example(filing)?)?;
     check_eq(weakest(filing)?, KEPT)
@@ -270,8 +271,8 @@ pub fn unchanged(filing: &mut Filing<Plain>) -> Result<(), Fail>
 
 // Checks the kept flag and the figure of weakest.
 fn answers(filing: &mut Filing<Plain>, kept: bool, figure: u32) -> Result<(), Fail>
-    requires { ⌜ Sound (now filing .plan) ⌝ }
-    ensures { λ _. ⌜ Sound (now (filing .exit) .plan) ⌝ }
+    requires { ⌜ Sound plainKind (now filing .plan) ⌝ }
+    ensures { λ _. ⌜ Sound plainKind (now (filing .exit) .plan) ⌝ }
 {
     let seen = weakest(filing)?;
     check_eq((seen.kept, seen.figure), (kept, figure))
@@ -279,7 +280,7 @@ fn answers(filing: &mut Filing<Plain>, kept: bool, figure: u32) -> Result<(), Fa
 
 // The weight of a division, or the number of the refusal.
 fn weighed(filing: &Filing<Plain>, marks: &[u8]) -> Result<u32, u8>
-    requires { ⌜ Sound (now filing .plan) ⌝ }
+    requires { ⌜ Sound plainKind (now filing .plan) ⌝ }
 {
     match filing.weigh(marks) {
         Ok(weight) => Ok(weight.amount()),
@@ -289,8 +290,8 @@ fn weighed(filing: &Filing<Plain>, marks: &[u8]) -> Result<u32, u8>
 
 // The figure with one link out, or the number of the refusal.
 fn tried(filing: &mut Filing<Plain>, link: usize) -> Result<u32, u8>
-    requires { ⌜ Sound (now filing .plan) ⌝ }
-    ensures { λ _. ⌜ Sound (now (filing .exit) .plan) ⌝ }
+    requires { ⌜ Sound plainKind (now filing .plan) ⌝ }
+    ensures { λ _. ⌜ Sound plainKind (now (filing .exit) .plan) ⌝ }
 {
     match trial(filing, link) {
         Ok(seen) => Ok(seen.figure),
@@ -299,8 +300,8 @@ fn tried(filing: &mut Filing<Plain>, link: usize) -> Result<u32, u8>
 }
 
 fn take(filing: &mut Filing<Plain>, step: Step) -> Result<(), Fail>
-    requires { ⌜ Sound (now filing .plan) ⌝ }
-    ensures { λ _. ⌜ Sound (now (filing .exit) .plan) ⌝ }
+    requires { ⌜ Sound plainKind (now filing .plan) ⌝ }
+    ensures { λ _. ⌜ Sound plainKind (now (filing .exit) .plan) ⌝ }
 {
     match step {
         Step::Begin => begin(filing),
@@ -315,8 +316,8 @@ fn take(filing: &mut Filing<Plain>, step: Step) -> Result<(), Fail>
 
 // Goes through the steps of a test.
 pub fn follow(filing: &mut Filing<Plain>, steps: &[Step]) -> Result<(), Fail>
-    requires { ⌜ Sound (now filing .plan) ⌝ }
-    ensures { λ _. ⌜ Sound (now (filing .exit) .plan) ⌝ }
+    requires { ⌜ Sound plainKind (now filing .plan) ⌝ }
+    ensures { λ _. ⌜ Sound plainKind (now (filing .exit) .plan) ⌝ }
 {
     for next in steps {
         take(filing, *next)?;

@@ -6,8 +6,8 @@ ghost use Rattle.std.specs.Results.{Cases};
 ghost use Rattle.std.specs.Vec.{made};
 ghost use Rattle.plans.specs.Sound.{Sound};
 use crate::answer::Answer;
-use crate::fill::fill;
 use crate::filing::Filing;
+use crate::fill::fill;
 use crate::guard::fill_without;
 use cuts::entry::Entry;
 use engine::contraction::contract;
@@ -38,7 +38,13 @@ fn copy_marks<W: Weight>(links: &[Link<W>], marks: &mut [u8])
 }
 
 // Works out the figure from a filled table, and leaves the table as nothing.
-fn work_out<W: Weight, Q: PriorityQueue<Weight = W>>(queue: &mut Q, table: &mut [W], n: usize, marks: &mut [u8], entries: &mut [Entry]) -> Result<Answer<W>, Refusal>
+fn work_out<W: Weight, Q: PriorityQueue<Weight = W>>(
+    queue: &mut Q,
+    table: &mut [W],
+    n: usize,
+    marks: &mut [u8],
+    entries: &mut [Entry],
+) -> Result<Answer<W>, Refusal>
     requires sound { ⌜ Q·PriorityQueue .sound (now queue) ⌝ }
     requires some { ⌜ 2 ≤ n ⌝ }
     requires most { ⌜ n ≤ 64 ⌝ }
@@ -60,7 +66,13 @@ fn work_out<W: Weight, Q: PriorityQueue<Weight = W>>(queue: &mut Q, table: &mut 
 
 impl<'a, W: Weight> Filing<'a, W> {
     // The weakest division: 15 below two units, then 17. Kept marks are answered as they are; else they are worked out and kept.
-    pub fn weakest<Q: PriorityQueue<Weight = W>>(&mut self, queue: &mut Q, marks: &mut [u8], entries: &mut [Entry], table: &mut [W]) -> Result<Answer<W>, Refusal>
+    pub fn weakest<Q: PriorityQueue<Weight = W>>(
+        &mut self,
+        queue: &mut Q,
+        marks: &mut [u8],
+        entries: &mut [Entry],
+        table: &mut [W],
+    ) -> Result<Answer<W>, Refusal>
         requires plan { ⌜ Sound W·Weight (now self .plan) ⌝ }
         requires queue { ⌜ Q·PriorityQueue .sound (now queue) ⌝ }
         ensures plan { λ _. ⌜ Sound W·Weight (now (self .exit) .plan) ⌝ }
@@ -94,7 +106,14 @@ impl<'a, W: Weight> Filing<'a, W> {
     }
 
     // The weakest division with one link out of service, never from kept marks and without touching them: 13, 17.
-    pub fn trial<Q: PriorityQueue<Weight = W>>(&mut self, link: usize, queue: &mut Q, marks: &mut [u8], entries: &mut [Entry], table: &mut [W]) -> Result<Answer<W>, Refusal>
+    pub fn trial<Q: PriorityQueue<Weight = W>>(
+        &mut self,
+        link: usize,
+        queue: &mut Q,
+        marks: &mut [u8],
+        entries: &mut [Entry],
+        table: &mut [W],
+    ) -> Result<Answer<W>, Refusal>
         requires plan { ⌜ Sound W·Weight (now self .plan) ⌝ }
         requires queue { ⌜ Q·PriorityQueue .sound (now queue) ⌝ }
         ensures plan { λ _. ⌜ Sound W·Weight (now (self .exit) .plan) ⌝ }

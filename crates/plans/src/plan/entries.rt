@@ -8,10 +8,10 @@ ghost use Rattle.plans.specs.Calls.{Called, enterVerdict, recodeVerdict};
 ghost use Rattle.plans.specs.Model.{borneByOther, codeOf, entered, modelOf, recoded};
 ghost use Rattle.plans.specs.Sound.{Sound};
 use crate::plan::Plan;
-use crate::plan::Unit;
 use crate::plan::UNITS;
-use codes::code::reading::SameCode;
+use crate::plan::Unit;
 use codes::code::FaultCode;
+use codes::code::reading::SameCode;
 use refusals::Refusal;
 use weights::weight::Weight;
 

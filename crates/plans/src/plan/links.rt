@@ -9,9 +9,9 @@ ghost use Rattle.plans.specs.Calls.{Called, linkVerdict, markVerdict, reweighV
 ghost use Rattle.plans.specs.Model.{linked, marked, modelOf, reweighed, struck};
 ghost use Rattle.plans.specs.Shifts.{Shifted};
 ghost use Rattle.plans.specs.Sound.{Sound};
+use crate::plan::LINKS;
 use crate::plan::Link;
 use crate::plan::Plan;
-use crate::plan::LINKS;
 use crate::plan::TOTAL;
 use refusals::Refusal;
 use weights::weight::Weight;

@@ -14,8 +14,8 @@ ghost use Rattle.plans.specs.Sound.{Joins, Sound};
 use crate::plan::Link;
 use crate::plan::Plan;
 use refusals::Refusal;
-use weights::weight::add;
 use weights::weight::Weight;
+use weights::weight::add;
 
 // How many marks are 1: 14 if one is neither 0 nor 1.
 fn count_marks(marks: &[u8]) -> Result<usize, Refusal>

@@ -14,10 +14,11 @@ ghost-self c =
       length-set _ _ _ ∙ old .sized,
       (
         omega arith,
-      (
-        every-more (λ p. (p .0 < c .join .last .self .units) × (p .1 < c .join .last .self .units)) (old .pairs) (0, 0) (c .args .a, c .args .b) (old .count) room
-        (omega arith, omega arith)
-        (λ k h. let was = old .inside k h in (omega arith, omega arith)),
-        tt,
-      )),
+        (
+          every-more (λ p. (p .0 < c .join .last .self .units) × (p .1 < c .join .last .self .units)) (old .pairs) (0, 0) (c .args .a, c .args .b) (old .count) room
+              (omega arith, omega arith)
+              (λ k h. let was = old .inside k h in (omega arith, omega arith)),
+          tt,
+        ),
+      ),
     )

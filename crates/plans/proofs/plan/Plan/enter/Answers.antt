@@ -34,7 +34,7 @@ returns-then-at-ge-UNITS g c =
     record {
       sound = c .pre;
       called = refuses (length (modelOf p .codes)) (entered text (modelOf p)) p
-        (passes NotACode _ (code .0) ∙ (passes CodeTaken _ (ap not free) ∙ fails Full _ (le-ltb (length (modelOf p .codes)) 64 (omega arith))));
+          (passes NotACode _ (code .0) ∙ (passes CodeTaken _ (ap not free) ∙ fails Full _ (le-ltb (length (modelOf p .codes)) 64 (omega arith))));
     }
 
 pub returns : need.returns
@@ -58,6 +58,6 @@ returns g c =
         limited = c .pre .limited;
       };
       called = accepts (length (modelOf p .codes)) (entered text (modelOf p)) p n _ (sym size)
-        (passes NotACode _ (code .0) ∙ (passes CodeTaken _ (ap not free) ∙ passes Full _ (lt-ltb (length (modelOf p .codes)) 64 (omega arith))))
-        (ap (λ cs. record { codes = cs; links = modelOf p .links }) codes);
+          (passes NotACode _ (code .0) ∙ (passes CodeTaken _ (ap not free) ∙ passes Full _ (lt-ltb (length (modelOf p .codes)) 64 (omega arith))))
+          (ap (λ cs. record { codes = cs; links = modelOf p .links }) codes);
     }

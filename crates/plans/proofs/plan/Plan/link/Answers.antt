@@ -56,10 +56,10 @@ returns g c =
     let room = c .if-at-ge-LINKS .left in
     record {
       sound = sound-linked w p q (c .pre) same l (c .set-link .ensures .links) refl room
-        (record { first = c .if-first-self .left; second = c .if-second-self .left; apart = c .if-first-second .left; weighty = positive (c .amount-amount .result) (c .amount-amount .ensures) (c .if-amount-eq0 .left) })
-        (let e = c .set-link .ensures .total in let a = c .amount-amount .ensures in omega arith) (let a = c .amount-amount .ensures in omega arith);
+          (record { first = c .if-first-self .left; second = c .if-second-self .left; apart = c .if-first-second .left; weighty = positive (c .amount-amount .result) (c .amount-amount .ensures) (c .if-amount-eq0 .left) })
+          (let e = c .set-link .ensures .total in let a = c .amount-amount .ensures in omega arith) (let a = c .amount-amount .ensures in omega arith);
       called = accepts (length (modelOf p .links)) (linked l (modelOf p)) p (p .«link_count») q (sym (link-size w p (c .pre)))
-        (link-fine w p (c .pre) (c .args .first) (c .args .second) (c .args .weight) (c .if-first-self .left) (c .if-second-self .left) (c .if-first-second .left) (λ e. c .if-amount-eq0 .left (omega arith)) room (omega arith))
-        (model-linked w p q (c .pre) same l (c .set-link .ensures .links) refl room);
+          (link-fine w p (c .pre) (c .args .first) (c .args .second) (c .args .weight) (c .if-first-self .left) (c .if-second-self .left) (c .if-first-second .left) (λ e. c .if-amount-eq0 .left (omega arith)) room (omega arith))
+          (model-linked w p q (c .pre) same l (c .set-link .ensures .links) refl room);
       ends = (c .if-first-self .left, c .if-second-self .left);
     }

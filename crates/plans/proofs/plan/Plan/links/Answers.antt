@@ -17,6 +17,6 @@ returns g c =
       value = ap (λ m. take m xs) z;
       len = len;
       joins = λ k d low high.
-        let in-it : k < n - 0 = omega arith in
-        subst (Joins (g .W·Weight) (p .«unit_count»)) (sym (getD-take (n - 0) xs k d in-it)) (c .pre .joins k d low (omega arith));
+          let in-it : k < n - 0 = omega arith in
+          subst (Joins (g .W·Weight) (p .«unit_count»)) (sym (getD-take (n - 0) xs k d in-it)) (c .pre .joins k d low (omega arith));
     }

@@ -16,6 +16,6 @@ returns g c =
     record {
       sound = c .remark .ensures .sound;
       called = accepts tt (marked k (eqb (c .args .mark) 1) (modelOf p)) p tt (c .remark .last .self) refl
-        (passes NoSuchLink _ (there (g .W·Weight) p (c .pre) k (omega arith)) ∙ passes BadMark _ (lt-ltb (c .args .mark) 2 (omega arith)))
-        (c .remark .ensures .model);
+          (passes NoSuchLink _ (there (g .W·Weight) p (c .pre) k (omega arith)) ∙ passes BadMark _ (lt-ltb (c .args .mark) 2 (omega arith)))
+          (c .remark .ensures .model);
     }

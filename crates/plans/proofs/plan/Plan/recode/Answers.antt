@@ -34,7 +34,7 @@ returns-in-Break-code g c =
     (record {
       sound = c .pre;
       called = refuses tt (recoded (c .args .unit) text (modelOf p)) p
-        (passes NoSuchUnit _ (lt-ltb (c .args .unit) (length (modelOf p .codes)) (omega arith)) ∙ fails NotACode _ (code .0));
+          (passes NoSuchUnit _ (lt-ltb (c .args .unit) (length (modelOf p .codes)) (omega arith)) ∙ fails NotACode _ (code .0));
     })
 
 pub returns-then-is-borne : need.returns-then-is-borne
@@ -47,7 +47,7 @@ returns-then-is-borne g c =
     record {
       sound = c .pre;
       called = refuses tt (recoded (c .args .unit) text (modelOf p)) p
-        (passes NoSuchUnit _ (lt-ltb (c .args .unit) (length (modelOf p .codes)) (omega arith)) ∙ (passes NotACode _ (code .0) ∙ fails CodeTaken _ (ap not borne)));
+          (passes NoSuchUnit _ (lt-ltb (c .args .unit) (length (modelOf p .codes)) (omega arith)) ∙ (passes NotACode _ (code .0) ∙ fails CodeTaken _ (ap not borne)));
     }
 
 pub returns : need.returns
@@ -71,6 +71,6 @@ returns g c =
         limited = c .pre .limited;
       };
       called = accepts tt (recoded (c .args .unit) text (modelOf p)) p tt _ refl
-        (passes NoSuchUnit _ (lt-ltb (c .args .unit) (length (modelOf p .codes)) (omega arith)) ∙ (passes NotACode _ (code .0) ∙ passes CodeTaken _ (ap not free)))
-        (ap (λ cs. record { codes = cs; links = modelOf p .links }) codes);
+          (passes NoSuchUnit _ (lt-ltb (c .args .unit) (length (modelOf p .codes)) (omega arith)) ∙ (passes NotACode _ (code .0) ∙ passes CodeTaken _ (ap not free)))
+          (ap (λ cs. record { codes = cs; links = modelOf p .links }) codes);
     }

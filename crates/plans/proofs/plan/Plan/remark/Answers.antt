@@ -22,9 +22,9 @@ returns g c =
     let same : SameUnits p q = record { units = c .set-link .ensures .units; count = c .set-link .ensures .unit-count } in
     record {
       sound = sound-changed w p q s same k f old within is (c .set-link .ensures .links) (c .set-link .ensures .link-count)
-        (record { first = joins .first; second = joins .second; apart = joins .apart; weighty = joins .weighty })
-        (c .set-link .ensures .total ∙ sym (others w p s k old within is))
-        (let e = c .set-link .ensures .total in let l = s .limited in omega arith);
+          (record { first = joins .first; second = joins .second; apart = joins .apart; weighty = joins .weighty })
+          (c .set-link .ensures .total ∙ sym (others w p s k old within is))
+          (let e = c .set-link .ensures .total in let l = s .limited in omega arith);
       model = model-changed w p q s same k f old within is (c .set-link .ensures .links) (c .set-link .ensures .link-count);
       unit-count = c .set-link .ensures .unit-count;
       link-count = c .set-link .ensures .link-count;

@@ -39,10 +39,10 @@ returns g c =
     let same : SameUnits p q = record { units = c .set-link .ensures .units; count = c .set-link .ensures .unit-count } in
     record {
       sound = sound-changed w p q (c .pre) same k f old (was .0) (was .1) (c .set-link .ensures .links) (c .set-link .ensures .link-count)
-        (record { first = joins .first; second = joins .second; apart = joins .apart; weighty = positive (c .amount-amount .result) a (c .if-amount-eq0 .left) })
-        (omega arith)
-        (omega arith);
+          (record { first = joins .first; second = joins .second; apart = joins .apart; weighty = positive (c .amount-amount .result) a (c .if-amount-eq0 .left) })
+          (omega arith)
+          (omega arith);
       called = accepts tt (reweighed k (c .args .weight) (modelOf p)) p tt q refl
-        (re-fine w p (c .pre) k (was .0) (c .args .weight) (λ z. c .if-amount-eq0 .left (omega arith)) (omega arith))
-        (model-changed w p q (c .pre) same k f old (was .0) (was .1) (c .set-link .ensures .links) (c .set-link .ensures .link-count));
+          (re-fine w p (c .pre) k (was .0) (c .args .weight) (λ z. c .if-amount-eq0 .left (omega arith)) (omega arith))
+          (model-changed w p q (c .pre) same k f old (was .0) (was .1) (c .set-link .ensures .links) (c .set-link .ensures .link-count));
     }

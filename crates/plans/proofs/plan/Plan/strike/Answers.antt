@@ -30,6 +30,6 @@ returns g c =
     record {
       sound = sound-struck w p q (c .pre) same k old (was .0) (was .1) (m .length) (m .links) count (omega arith);
       called = accepts tt (struck k (modelOf p)) p tt q refl
-        (passes NoSuchLink _ (there w p (c .pre) k (was .0)))
-        (model-struck w p q (c .pre) same k old (was .0) (was .1) (m .length) (m .links) count);
+          (passes NoSuchLink _ (there w p (c .pre) k (was .0)))
+          (model-struck w p q (c .pre) same k old (was .0) (was .1) (m .length) (m .links) count);
     }

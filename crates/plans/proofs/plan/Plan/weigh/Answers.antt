@@ -57,9 +57,9 @@ returns-then-count-eq0 g c =
     let counted = c .in-Continue-count .ensures tt in
     let ok = two-marked (p .«unit_count») n ms size (omega arith) (omega arith) (counted .0) in
     let none-or-all : (ltb 0 (countMarks ms) && ltb (countMarks ms) n) ≡ false = ⊎-elim
-      (λ z. and-left (ltb 0 (countMarks ms)) (ltb (countMarks ms) n) (le-ltb 0 (countMarks ms) (omega arith)))
-      (λ z. and-right (ltb 0 (countMarks ms)) (ltb (countMarks ms) n) (le-ltb (countMarks ms) n (omega arith)))
-      (c .then-count-eq0 .either) in
+    (λ z. and-left (ltb 0 (countMarks ms)) (ltb (countMarks ms) n) (le-ltb 0 (countMarks ms) (omega arith)))
+    (λ z. and-right (ltb 0 (countMarks ms)) (ltb (countMarks ms) n) (le-ltb (countMarks ms) n (omega arith)))
+    (c .then-count-eq0 .either) in
     passes NoDivision _ (ok .0) ∙ (passes BadMark _ (ok .1) ∙ fails NoDivision _ none-or-all)
 
 pub cut-weight-requires : need.cut-weight-requires

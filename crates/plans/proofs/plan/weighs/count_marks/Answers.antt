@@ -27,7 +27,7 @@ loop-mark-again c =
     let good = ap (λ b. b && areMarks (drop (i + 1) ms)) (lt-ltb (getD ms i 0) 2 (omega arith)) in
     let before = c .loop-mark .inv .2 in
     let counted : (c .if-mark-eq1 .count ≤ i + 1) × (c .if-mark-eq1 .count + countMarks (drop (i + 1) ms) ≡ countMarks ms) = elim (c .if-mark-eq1 .came) [
-      then-mark-eq1 w ↦ (let e = w .count-is in let one = count-marked ms i (c .loop-mark-test .taken) (w .if-mark-eq1 .taken) in (omega arith, omega arith))
+      | then-mark-eq1 w ↦ (let e = w .count-is in let one = count-marked ms i (c .loop-mark-test .taken) (w .if-mark-eq1 .taken) in (omega arith, omega arith))
       | else-mark-eq1 w ↦ (let e = w .count-is in let none = count-unmarked ms i (c .loop-mark-test .taken) (w .if-mark-eq1 .left) in (omega arith, omega arith))
     ] in
     (counted .0, sym (step ∙ good) ∙ c .loop-mark .inv .1, counted .1)
