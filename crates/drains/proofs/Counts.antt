@@ -41,13 +41,13 @@ module _ {W : Type 0} (before after : ℕ → Option W) (g : ℕ) (step : Become
   unfolding waitingTo
   waiting-less zero h k was = absurd (omega arith)
   waiting-less (suc n) h k was = ⊎-elim
-    (λ (e : n ≡ g).
+      (λ (e : n ≡ g).
       let a = untouched n (omega arith) in
       let b : bit (isSome (before n)) ≡ 1 = ap (λ o. bit (isSome o)) (ap before e ∙ was) in
       let c : bit (isSome (after n)) ≡ 0 = ap (λ o. bit (isSome o)) (ap after e ∙ step g ∙ update-here before g None) in
       omega arith)
-    (λ (ne : n ≡ g → ⊥).
+      (λ (ne : n ≡ g → ⊥).
       let a = waiting-less n (⊎-elim (λ (l : g < n). l) (λ (m : n ≤ g). absurd (ne (omega arith))) (cases-lt g n)) k was in
       let b : bit (isSome (after n)) ≡ bit (isSome (before n)) = ap (λ o. bit (isSome o)) (step n ∙ update-apart before g None n ne) in
       omega arith)
-    (cases-eq n g)
+      (cases-eq n g)

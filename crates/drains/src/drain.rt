@@ -9,7 +9,10 @@ use weights::weight::Weight;
 
 // Takes every entry of a queue into `out`, in the order taken, and answers how many there were.
 // Every entry comes out exactly once, keys never rise, and what `out` holds past them stays.
-pub fn drain<W: Weight, Q: PriorityQueue<Weight = W>>(queue: &mut Q, out: &mut [(usize, W)]) -> usize
+pub fn drain<W: Weight, Q: PriorityQueue<Weight = W>>(
+    queue: &mut Q,
+    out: &mut [(usize, W)],
+) -> usize
     requires sound { ⌜ Q·PriorityQueue .sound (now queue) ⌝ }
     requires room { ⌜ 64 ≤ length (now out) ⌝ }
     ensures sound { λ _. ⌜ Q·PriorityQueue .sound (now (queue .exit)) ⌝ }

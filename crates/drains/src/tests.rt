@@ -19,10 +19,12 @@ use weights::weight::Weight;
 
 // What `fill` puts, and raises by. Then three and two groups are equally heavy.
 const PUT: [(usize, u32); 6] = [(20, 1), (3, 4), (50, 4), (8, 1), (63, 0), (0, 2)];
+
 const RAISED: [(usize, u32); 2] = [(8, 3), (63, 2)];
 
 // What comes out where the lowest group is taken among equals, and the highest.
 const LOWEST: [(usize, u32); 6] = [(3, 4), (8, 4), (50, 4), (0, 2), (63, 2), (20, 1)];
+
 const HIGHEST: [(usize, u32); 6] = [(50, 4), (8, 4), (3, 4), (63, 2), (0, 2), (20, 1)];
 
 fn plain(conductors: u32) -> Result<Plain, Refusal> {
@@ -63,7 +65,10 @@ fn refuse<Q: PriorityQueue<Weight = Plain>>(queue: &mut Q) -> Result<(), Fail>
 }
 
 // Drains a queue and compares what comes out.
-fn compare<Q: PriorityQueue<Weight = Plain>>(queue: &mut Q, expected: &[(usize, u32)]) -> Result<(), Fail>
+fn compare<Q: PriorityQueue<Weight = Plain>>(
+    queue: &mut Q,
+    expected: &[(usize, u32)],
+) -> Result<(), Fail>
     requires { ⌜ Q·PriorityQueue .sound (now queue) ⌝ }
     ensures { λ _. ⌜ Q·PriorityQueue .sound (now (queue .exit)) ⌝ }
 {
@@ -78,7 +83,10 @@ fn compare<Q: PriorityQueue<Weight = Plain>>(queue: &mut Q, expected: &[(usize, 
 }
 
 // A refusal changes no entry; a drained queue is empty; a cleared one too.
-fn try_out<Q: PriorityQueue<Weight = Plain>>(queue: &mut Q, expected: &[(usize, u32)]) -> Result<(), Fail>
+fn try_out<Q: PriorityQueue<Weight = Plain>>(
+    queue: &mut Q,
+    expected: &[(usize, u32)],
+) -> Result<(), Fail>
     requires { ⌜ Q·PriorityQueue .sound (now queue) ⌝ }
 {
     fill(queue)?;

@@ -46,8 +46,7 @@ loop-entry-again g c =
     let count = c .loop-entry .count in
     let less = fewer g c in
     let room = place g c in
-    let taken = c .in-Some .ensures tt .taken in
-    (
+    let taken = c .in-Some .ensures tt .taken in (
       c .take .ensures .sound,
       length-set out count _ ∙ inv .1,
       omega arith,
