@@ -57,11 +57,13 @@ fn refuse<Q: PriorityQueue<Weight = Plain>>(queue: &mut Q) -> Result<(), Fail>
     requires { ⌜ Q·PriorityQueue .sound (now queue) ⌝ }
     ensures { λ _. ⌜ Q·PriorityQueue .sound (now (queue .exit)) ⌝ }
 {
-    check_eq(refused(queue.put(64, plain(9)?)), 9)?;
-    check_eq(refused(queue.put(3, plain(9)?)), 18)?;
-    check_eq(refused(queue.raise(1, plain(9)?)), 19)?;
-    check_eq(refused(queue.raise(64, plain(9)?)), 19)?;
-    check_eq(refused(queue.raise(3, plain(2_000_000)?)), 12)
+    let nine = plain(9)?;
+    let most = plain(2_000_000)?;
+    check_eq(refused(queue.put(64, nine)), 9)?;
+    check_eq(refused(queue.put(3, nine)), 18)?;
+    check_eq(refused(queue.raise(1, nine)), 19)?;
+    check_eq(refused(queue.raise(64, nine)), 19)?;
+    check_eq(refused(queue.raise(3, most)), 12)
 }
 
 // Drains a queue and compares what comes out.
