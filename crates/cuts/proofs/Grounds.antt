@@ -18,7 +18,7 @@ use Rattle.cuts.specs.Divisions.{Division, weight-of}
 use Rattle.cuts.specs.Groups.{after, group, stands, Whole, Joins, degree, joint}
 use Rattle.cuts.specs.Tests.{third, gathered, Meets}
 use Rattle.cuts.specs.Scans.{has, key, Order, Capped}
-use Rattle.cuts.specs.Claims.{Loses-nothing, Grounds-safe, Scan-safe}
+use Rattle.cuts.specs.Claims.{Loses-nothing, Grounds-safe, Scan-safe, Order-safe}
 use Rattle.cuts.proofs.Rules.{cuts, relabel, Over, cut, deg, pull, tie}
 use Rattle.cuts.proofs.Sums.{weigh-relabel}
 use Rattle.cuts.proofs.Served.{served, served-over, links-at, light-at, weight-cut, degree-deg, joint-tie, key-pull, gathered-gather}
@@ -110,3 +110,6 @@ scan-safe K laws n ls sound es joins cap fit v taken order w sw out h S whole pa
     let names = named n es joins in
     rw (whole-cut K laws n ls sound es names S (whole-own n es S names whole))
     (capped-scan K laws (links-at ls es) (light-at K laws n ls sound es) cap fit (stands n es) v taken (taken-at K laws n ls sound es names cap (v ∷ taken) order) w sw out (rw (key-pull K laws n ls sound es (v ∷ taken) w out) at h) S parted)
+
+pub order-safe : {V : Type 0} (K : Kind V) → Lawful K → Order-safe K
+order-safe K laws n ls sound es joins bound fit v taken order = scan-safe K laws n ls sound es joins bound fit v taken (order-capped K laws n ls sound es (named n es joins) bound (v ∷ taken) order)

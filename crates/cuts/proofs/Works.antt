@@ -21,7 +21,7 @@ use Rattle.cuts.specs.Scans.{has, key, Order, finds, found, raised}
 use Rattle.cuts.specs.Records.{Point, merger, Lightest, best-weight, ended, better, merge, merge-found, next-scan, scanned, Work, begin, test, scan}
 use Rattle.cuts.specs.Claims.{Loses-nothing, Answers, Record-least}
 use Rattle.cuts.proofs.Names.{Named, merged, after-more, named, lands, stands-less, stands-own, whole-own, own-whole}
-use Rattle.cuts.proofs.Grounds.{grounds-safe, scan-safe, order-capped}
+use Rattle.cuts.proofs.Grounds.{grounds-safe, order-safe}
 use Rattle.cuts.proofs.Mergers.{Merged, single, more, fit-weight, at-least, through, better-old, merged-joins, best-present}
 use Rattle.cuts.proofs.Ends.{merged-weakest, merged-points}
 
@@ -87,7 +87,7 @@ module _ {V : Type 0} (K : Kind V) (laws : Lawful K) (n : ℕ) (ls : List (Link 
               one = order .0;
               other = stood;
               apart = grind (arith, tells);
-              parted = λ S whole parted. scan-safe K laws n ls sound es joins bound fit v taken (order-capped K laws n ls sound es (named n es joins) bound (v ∷ taken) order) k stood out comes S whole parted;
+              parted = λ S whole parted. order-safe K laws n ls sound es joins bound fit v taken order k stood out comes S whole parted;
             }
 
         go : (b : Bool) → raised K n ls es bound v taken k ≡ b → Each (Finding es bound) (cond b ((v, k) ∷ []) [])

@@ -40,6 +40,14 @@ module _ {V : Type 0} (K : Kind V) where
       → (w : ℕ) → stands n es w ≡ true → has (v ∷ taken) w ≡ false → AtMost K cap (key K n ls es (v ∷ taken) w)
       → (S : ℕ → Bool) → Whole n es S → (S v ≡ S w → ⊥) → AtMost K cap (weight-of K ls S)
 
+  -- the same where each group taken was a heaviest, with no cap
+  abbrev pub Order-safe : Type 0
+  Order-safe =
+      (n : ℕ) (ls : List (Link V)) → Sound K n ls → (es : List Entry) → Joins n [] es
+      → (bound : V) → K .amount bound ≤ limit → (v : ℕ) (taken : List ℕ) → Order K n ls es (v ∷ taken)
+      → (w : ℕ) → stands n es w ≡ true → has (v ∷ taken) w ≡ false → AtMost K bound (key K n ls es (v ∷ taken) w)
+      → (S : ℕ → Bool) → Whole n es S → (S v ≡ S w → ⊥) → AtMost K bound (weight-of K ls S)
+
   -- every scan of the work finds a pair and merges it
   abbrev pub Scan-merges : Type 0
   Scan-merges =
