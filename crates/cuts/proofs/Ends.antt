@@ -81,7 +81,7 @@ module _ {V : Type 0} (K : Kind V) (laws : Lawful K) (n : ℕ) (ls : List (Link 
       let ga = lands n es names a la in
       let gb = lands n es names b lb in
       let apart : after es a ≡ after es b → ⊥ = λ e. let k = ap S e in grind arith in
-      let left = names .left in
+      let left = names .fewer in
       let each = two-left n (stands n es) (after es a) (after es b) (stands-less n es _ ga) (stands-less n es _ gb) ga gb apart (omega arith) in
       (after es a, ga, weight-below S (group es (after es a)) (λ x lx. own x ∙ one-side S (after es a) (after es b) (after es x) (each (after es x) (stands-less n es _ (lands n es names x lx)) (lands n es names x lx)) sg sk))
 

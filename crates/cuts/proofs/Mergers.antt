@@ -22,7 +22,6 @@ use Rattle.cuts.proofs.Rules.{cuts}
 use Rattle.cuts.proofs.Sums.{same, fits}
 use Rattle.cuts.proofs.Points.{two-cuts}
 use Rattle.cuts.proofs.Served.{served, light, weight-cut}
-use Rattle.cuts.proofs.Counts.{count-below, two-left}
 use Rattle.cuts.proofs.Names.{Named, merged, after-append, after-more, named, named-none, named-more, lands, stands-less, stands-own, joins-more, joins-take, group-division, whole-own, own-whole, stands-more}
 use Rattle.cuts.proofs.Grounds.{whole-cut}
 

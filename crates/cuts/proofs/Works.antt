@@ -179,6 +179,17 @@ module _ {V : Type 0} (K : Kind V) (laws : Lawful K) (n : ℕ) (ls : List (Link 
       within-found two p (found K n ls (p .done) (best-weight K n ls p) taken) (found-each (p .done) (j .0) (best-weight K n ls p) (fit-weight K laws n ls sound (p .best)) taken order) (next-scan K n ls p)
       (record { coarser = λ x. sym (names .own x); lighter = at-least K laws n ls sound (p .best); mergers = m }) .mergers
 
+-- what holds at each point of the work: names, groups left, and best at most every group's degree
+pub work-named : {V : Type 0} (K : Kind V) (laws : Lawful K) (n : ℕ) (ls : List (Link V)) (sound : Sound K n ls) → 2 ≤ n → {p : Point} → Work K n ls p → Joins n [] (p .done) × Named n (p .done) × (length (p .done) + 2 ≤ n)
+work-named K laws n ls sound two {p} w = let j = merged-joins K laws n ls sound two (work-merged K laws n ls sound two w) in (j .0, named n (p .done) (j .0), j .1)
+
+pub work-best : {V : Type 0} (K : Kind V) (laws : Lawful K) (n : ℕ) (ls : List (Link V)) (sound : Sound K n ls) → 2 ≤ n → {p : Point} → Work K n ls p → (g : ℕ) → stands n (p .done) g ≡ true → AtMost K (best-weight K n ls p) (degree K ls (p .done) g)
+work-best K laws n ls sound two w = best-present K laws n ls sound two (work-merged K laws n ls sound two w)
+
+-- an entry whose lower group is given first
+pub merger-ordered : (u v : ℕ) (ground : Ground) (number : ℕ) → u < v → merger u v ground number ≡ record { low = u; high = v; ground = ground; scan = number }
+merger-ordered u v ground number less = rw (min-low u v less, max-high u v less)
+
 pub record-least : {V : Type 0} (K : Kind V) → Lawful K → Record-least K
 record-least K laws n ls sound two p w over =
     let m = work-merged K laws n ls sound two w in

@@ -11,10 +11,16 @@ use Rattle.cuts.specs.declared.ground.Ground.{Ground}
 use Rattle.cuts.specs.Kinds.{Kind, AtMost, above}
 use Rattle.cuts.specs.Links.{Link, Sound}
 use Rattle.cuts.specs.Divisions.{Division, turned, weight-of, between, Weakest, Figure, only}
-use Rattle.cuts.specs.Groups.{stands, Whole, Joins, degree}
+use Rattle.cuts.specs.Groups.{after, stands, left, Whole, Joins, degree}
 use Rattle.cuts.specs.Tests.{Meets}
 use Rattle.cuts.specs.Scans.{has, key, Capped, Order, Complete}
 use Rattle.cuts.specs.Records.{Point, best-weight, ended, scanned, Work}
+
+-- after mergers a group goes by its lowest unit, and each merger leaves one group fewer
+abbrev pub Groups-named : Type 0
+Groups-named =
+    (n : ℕ) (es : List Entry) → Joins n [] es
+    → ((x : ℕ) → after es x ≤ x) × ((x : ℕ) → after es (after es x) ≡ after es x) × (left n es + length es ≡ n)
 
 module _ {V : Type 0} (K : Kind V) where
   -- a division that parts u and v weighs at least best, or one that does not part them weighs no more than it

@@ -1,6 +1,6 @@
 // Why the figure is least: each function's contract is a theorem, for every kind of weights that shows the laws.
 ghost use Rattle.cuts.specs.Kinds.{kind};
-ghost use Rattle.cuts.specs.Claims.{Grounds-safe, Scan-safe, Order-safe, Scan-merges, Record-least, Turned-weakest, Alike-same};
+ghost use Rattle.cuts.specs.Claims.{Grounds-safe, Scan-safe, Order-safe, Groups-named, Scan-merges, Record-least, Turned-weakest, Alike-same};
 ghost use Rattle.cuts.specs.Outcomes.{Outcome-promised};
 ghost use Rattle.cuts.specs.Noted.{Noted-same};
 ghost use Rattle.cuts.specs.Edits.{Change-keeps, Edits-keep};
@@ -24,6 +24,13 @@ pub fn scan_is_safe<W: Weight>() -> u8
 // Ground 5 where each group taken was a heaviest, with no cap.
 pub fn order_is_safe<W: Weight>() -> u8
     ensures { λ _. ⌜ Order-safe (kind (W·Weight .zero) (W·Weight .plus) (W·Weight .le) (W·Weight .size)) ⌝ }
+{
+    0
+}
+
+// After mergers a group goes by its lowest unit, and each merger leaves one group fewer.
+pub fn groups_are_named() -> u8
+    ensures { λ _. ⌜ Groups-named ⌝ }
 {
     0
 }
