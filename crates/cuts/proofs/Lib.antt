@@ -21,3 +21,4 @@ pub mod Examples
 pub mod Steps
 pub mod Outcomes
 pub mod Noted
+pub mod Always

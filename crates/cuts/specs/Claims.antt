@@ -84,6 +84,10 @@ module _ {V : Type 0} (K : Kind V) where
   abbrev pub Record-least : Type 0
   Record-least = (n : ℕ) (ls : List (Link V)) → Sound K n ls → 2 ≤ n → (p : Point) → Work K n ls p → ended K n ls p ≡ true → Answers n ls p
 
+  -- the rules allow some record for every plan: the work can go on until it ends
+  abbrev pub Record-exists : Type 0
+  Record-exists = (n : ℕ) (ls : List (Link V)) → Sound K n ls → 2 ≤ n → (p : Point) × Work K n ls p × (ended K n ls p ≡ true)
+
   -- a weakest division turned over, so that unit 0 is not marked, is the same division: it weighs the same and is weakest
   abbrev pub Turned-weakest : Type 0
   Turned-weakest =

@@ -1,6 +1,6 @@
 // Why the figure is least: each function's contract is a theorem, for every kind of weights that shows the laws.
 ghost use Rattle.cuts.specs.Kinds.{kind};
-ghost use Rattle.cuts.specs.Claims.{Grounds-safe, Scan-safe, Order-safe, Groups-named, Scan-merges, Record-least, Turned-weakest, Alike-same};
+ghost use Rattle.cuts.specs.Claims.{Grounds-safe, Scan-safe, Order-safe, Groups-named, Scan-merges, Record-least, Record-exists, Turned-weakest, Alike-same};
 ghost use Rattle.cuts.specs.Outcomes.{Outcome-promised};
 ghost use Rattle.cuts.specs.Noted.{Noted-same};
 ghost use Rattle.cuts.specs.Edits.{Change-keeps, Edits-keep};
@@ -46,6 +46,13 @@ pub fn scan_merges<W: Weight>() -> u8
 // figure is the least among the degrees of the groups so far and the weights of divisions that keep the groups whole.
 pub fn record_is_least<W: Weight>() -> u8
     ensures { λ _. ⌜ Record-least (kind (W·Weight .zero) (W·Weight .plus) (W·Weight .le) (W·Weight .size)) ⌝ }
+{
+    0
+}
+
+// The rules allow some record for every plan of two or more units.
+pub fn record_exists<W: Weight>() -> u8
+    ensures { λ _. ⌜ Record-exists (kind (W·Weight .zero) (W·Weight .plus) (W·Weight .le) (W·Weight .size)) ⌝ }
 {
     0
 }
