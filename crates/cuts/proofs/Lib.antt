@@ -22,3 +22,4 @@ pub mod Steps
 pub mod Outcomes
 pub mod Noted
 pub mod Always
+pub mod Fills
