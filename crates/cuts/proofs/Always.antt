@@ -1,12 +1,11 @@
 -- The work never stands still: some unit is lightest, a pair meets a test or none does, groups can be taken heaviest first.
-use mathlib.Core.Path.{_≡_, refl, sym, ap, subst, _∙_}
+use mathlib.Core.Path.{_≡_, refl, sym, ap, _∙_}
 use mathlib.Core.Logic.{_⊎_, inl, inr, ⊎-elim}
-use mathlib.Core.List.{List, [], _∷_, _++_}
-use mathlib.Core.Bool.{Bool, true, false, not, cond, _||_, _&&_}
-use Prim.Native.Nat.{ℕ, zero, suc, _+_, _-_, _≤_, _<_}
+use mathlib.Core.List.{List, [], _∷_}
+use mathlib.Core.Bool.{Bool, true, false, not, _||_, _&&_}
+use Prim.Native.Nat.{ℕ, zero, suc, _+_, _≤_, _<_}
 use native.Mathlib.Omega.{arith}
-use lib.Dec.{eqb, ltb, leb}
-use lib.ListN.{length, length-append}
+use lib.ListN.{length}
 use Rattle.std.proofs.shelf.Ways.{tells}
 use Rattle.std.proofs.shelf.Tests.{cases-bool, cases-lt, and-parts, or-parts, or-cases, not-true}
 use Rattle.weights.specs.Laws.{limit}
@@ -16,12 +15,12 @@ use Rattle.cuts.specs.declared.ground.Ground.the-variants.{Heavy, Unbalanced, 
 use Rattle.cuts.specs.Numbers.{groundNumber}
 use Rattle.cuts.specs.Kinds.{Kind, Lawful, AtMost}
 use Rattle.cuts.specs.Links.{Link, Sound}
-use Rattle.cuts.specs.Groups.{after, group, stands, one, count-below, degree}
+use Rattle.cuts.specs.Groups.{after, group, stands, count-below, degree}
 use Rattle.cuts.specs.Tests.{Meets, Pair, First, None}
 use Rattle.cuts.specs.Scans.{has, key, Order, Complete}
-use Rattle.cuts.specs.Records.{Point, merger, Lightest, best-weight, ended, merge, scanned, Work, begin, test, scan}
+use Rattle.cuts.specs.Records.{Point, merger, best-weight, ended, merge, scanned, Work, begin, test, scan}
 use Rattle.cuts.specs.Claims.{Record-exists}
-use Rattle.cuts.proofs.Counts.{but, count-same, count-but, count-none}
+use Rattle.cuts.proofs.Counts.{but, count-same, count-but}
 use Rattle.cuts.proofs.Names.{stands-less}
 use Rattle.cuts.proofs.Mergers.{fit-weight, length-more}
 use Rattle.cuts.proofs.Facts.{sums-fit}

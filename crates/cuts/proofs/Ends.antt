@@ -2,27 +2,26 @@
 use mathlib.Core.Path.{_≡_, refl, sym, ap, subst, _∙_}
 use mathlib.Core.Logic.{_⊎_, inl, inr, ⊎-elim}
 use mathlib.Core.List.{List, [], _∷_, _++_}
-use mathlib.Core.Bool.{Bool, true, false, not, cond, _||_, _&&_}
-use Prim.Native.Nat.{ℕ, zero, suc, _+_, _≤_, _<_}
+use mathlib.Core.Bool.{Bool, true, false}
+use Prim.Native.Nat.{ℕ, _+_, _≤_, _<_}
 use native.Mathlib.Omega.{arith}
 use lib.Dec.{eqb, ltb}
 use lib.ListN.{length, take, drop, length-take, take-append-drop}
 use lib.Seq.{take-take}
 use Rattle.std.proofs.shelf.Ways.{tells}
 use Rattle.std.proofs.shelf.Tests.{cases-lt, ltb-true}
-use Rattle.weights.specs.Laws.{limit}
 use Rattle.cuts.specs.declared.entry.Entry.{Entry}
 use Rattle.cuts.specs.Kinds.{Kind, Lawful, AtMost}
 use Rattle.cuts.specs.Links.{Link, Sound}
 use Rattle.cuts.specs.Divisions.{Division, weight-of, Weakest}
-use Rattle.cuts.specs.Groups.{after, group, stands, Whole, Joins, degree}
+use Rattle.cuts.specs.Groups.{after, group, stands, Whole, degree}
 use Rattle.cuts.specs.Claims.{Least-at}
 use Rattle.cuts.proofs.Rules.{cuts}
 use Rattle.cuts.proofs.Sums.{weigh-over}
 use Rattle.cuts.proofs.Served.{served, served-over, weight-cut}
 use Rattle.cuts.proofs.Counts.{two-left}
 use Rattle.cuts.proofs.Moves.{differing}
-use Rattle.cuts.proofs.Names.{Named, merged, after-append, after-more, named, named-more, lands, stands-less, joins-take, group-division, whole-own, own-whole}
+use Rattle.cuts.proofs.Names.{Named, merged, after-append, after-more, named, lands, stands-less, joins-take, group-division, whole-own, own-whole}
 use Rattle.cuts.proofs.Mergers.{Merged, single, more, Stood, stood-longer, fit-weight, at-least, through, merged-joins, best-least, best-present, best-stood}
 
 same-side : (S : ℕ → Bool) (u v g : ℕ) → S u ≡ S v → S g ≡ S (merged u v g)

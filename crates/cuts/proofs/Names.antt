@@ -1,8 +1,8 @@
 -- The groups that mergers make: each goes by its lowest unit, and each merger leaves one fewer.
 use mathlib.Core.Path.{_≡_, refl, sym, ap, subst, _∙_}
-use mathlib.Core.Logic.{_⊎_, inl, inr, ⊎-elim}
+use mathlib.Core.Logic.{⊎-elim}
 use mathlib.Core.List.{List, [], _∷_, _++_, append-assoc, append-nil}
-use mathlib.Core.Bool.{Bool, true, false, not, cond, _&&_}
+use mathlib.Core.Bool.{Bool, true, not, cond, _&&_}
 use Prim.Native.Nat.{ℕ, zero, suc, _+_, _≤_, _<_}
 use native.Mathlib.Omega.{arith}
 use lib.Dec.{eqb, ltb}
@@ -11,7 +11,7 @@ use Rattle.std.proofs.shelf.Ways.{tells}
 use Rattle.std.proofs.shelf.Tests.{cases-eq, cases-lt}
 use Rattle.cuts.specs.declared.entry.Entry.{Entry}
 use Rattle.cuts.specs.Divisions.{Division}
-use Rattle.cuts.specs.Groups.{after, group, stands, count-below, left, Whole, Joins}
+use Rattle.cuts.specs.Groups.{after, group, stands, left, Whole, Joins}
 use Rattle.cuts.specs.Claims.{Groups-named}
 use Rattle.cuts.proofs.Counts.{but, count-same, count-all, count-but, another}
 

@@ -1,21 +1,21 @@
 -- A record replayed: each step tested by computation, so that a point reached is one that the work allows.
-use mathlib.Core.Path.{_≡_, refl, sym, ap, subst, _∙_}
-use mathlib.Core.Logic.{_⊎_, inl, inr, ⊎-elim}
+use mathlib.Core.Path.{_≡_, refl}
+use mathlib.Core.Logic.{inl, inr, ⊎-elim}
 use mathlib.Core.List.{List, [], _∷_}
-use mathlib.Core.Bool.{Bool, true, false, not, cond, _||_, _&&_}
-use Prim.Native.Nat.{ℕ, zero, suc, _+_, _≤_, _<_}
+use mathlib.Core.Bool.{Bool, true, false, not, _||_, _&&_}
+use Prim.Native.Nat.{ℕ, _<_}
 use native.Mathlib.Omega.{arith}
 use lib.Dec.{eqb, ltb, leb}
 use Rattle.std.proofs.shelf.Ways.{tells}
-use Rattle.std.proofs.shelf.Tests.{cases-bool, and-parts, and-cases, or-cases, or-parts, not-true, not-false, ltb-true}
+use Rattle.std.proofs.shelf.Tests.{and-parts, and-cases, or-cases, or-parts, not-true, ltb-true}
 use Rattle.cuts.specs.declared.entry.Entry.{Entry}
 use Rattle.cuts.specs.declared.ground.Ground.{Ground}
 use Rattle.cuts.specs.declared.ground.Ground.the-variants.{Heavy, Unbalanced, Triangle, Neighbourhood, Scan}
 use Rattle.cuts.specs.Numbers.{groundNumber}
-use Rattle.cuts.specs.Kinds.{Kind, AtMost, above}
+use Rattle.cuts.specs.Kinds.{Kind, above}
 use Rattle.cuts.specs.Links.{Link}
 use Rattle.cuts.specs.Groups.{group, stands, degree, joint}
-use Rattle.cuts.specs.Tests.{third, twice, gathered, Meets, Pair, First, None}
+use Rattle.cuts.specs.Tests.{third, twice, gathered, Meets, Pair, First}
 use Rattle.cuts.specs.Scans.{has, key, Order, Complete}
 use Rattle.cuts.specs.Records.{Point, merger, Lightest, best-weight, ended, merge, scanned, Work, begin, test, scan}
 use Rattle.cuts.proofs.Names.{stands-less}

@@ -1,26 +1,26 @@
 -- The work loses nothing: each of its mergers is of a pair that may be merged.
-use mathlib.Core.Path.{_≡_, refl, sym, ap, subst, _∙_}
+use mathlib.Core.Path.{_≡_, refl, sym, ap, _∙_}
 use mathlib.Core.Logic.{_⊎_, inl, inr, ⊎-elim}
 use mathlib.Core.List.{List, [], _∷_, _++_}
-use mathlib.Core.Bool.{Bool, true, false, not, cond, _||_, _&&_}
+use mathlib.Core.Bool.{Bool, true, false, not, cond, _||_}
 use Prim.Native.Nat.{ℕ, zero, suc, _+_, _≤_, _<_, min, max}
 use native.Mathlib.Omega.{arith}
-use lib.Dec.{eqb, ltb, leb}
-use lib.ListN.{length, take}
+use lib.Dec.{eqb, leb}
+use lib.ListN.{length}
 use Rattle.std.proofs.shelf.Ways.{tells}
-use Rattle.std.proofs.shelf.Tests.{cases-lt, cases-order, cases-bool, eqb-false, or-parts, or-cases, leb-true, leb-false}
+use Rattle.std.proofs.shelf.Tests.{cases-lt, eqb-false, or-parts, or-cases, leb-true, leb-false}
 use Rattle.weights.specs.Laws.{limit}
 use Rattle.cuts.specs.declared.entry.Entry.{Entry}
 use Rattle.cuts.specs.declared.ground.Ground.{Ground}
 use Rattle.cuts.specs.declared.ground.Ground.the-variants.{Scan}
 use Rattle.cuts.specs.Kinds.{Kind, Lawful, AtMost, above}
 use Rattle.cuts.specs.Links.{Link, Sound}
-use Rattle.cuts.specs.Divisions.{Division, weight-of}
+use Rattle.cuts.specs.Divisions.{weight-of}
 use Rattle.cuts.specs.Groups.{after, group, stands, Whole, Joins, degree}
 use Rattle.cuts.specs.Scans.{has, key, Order, finds, found, raised}
-use Rattle.cuts.specs.Records.{Point, merger, Lightest, best-weight, ended, better, merge, merge-found, next-scan, scanned, Work, begin, test, scan}
-use Rattle.cuts.specs.Claims.{Loses-nothing, Answers, Record-least}
-use Rattle.cuts.proofs.Names.{Named, merged, after-more, named, lands, stands-less, stands-own, whole-own, own-whole}
+use Rattle.cuts.specs.Records.{Point, merger, best-weight, ended, better, merge, merge-found, next-scan, Work, begin, test, scan}
+use Rattle.cuts.specs.Claims.{Loses-nothing, Record-least}
+use Rattle.cuts.proofs.Names.{Named, merged, after-more, named, lands, stands-less, whole-own, own-whole}
 use Rattle.cuts.proofs.Grounds.{grounds-safe, order-safe}
 use Rattle.cuts.proofs.Mergers.{Merged, single, more, fit-weight, at-least, through, better-old, merged-joins, best-present}
 use Rattle.cuts.proofs.Ends.{merged-weakest, merged-points}
