@@ -1,17 +1,16 @@
 -- Plans alike weigh every division alike, and so have one figure. A division turned over is the same division.
-use mathlib.Core.Path.{_≡_, refl, sym, ap, ap₂, subst, fun-ext, _∙_}
-use mathlib.Core.Logic.{_⊎_, inl, inr, ⊎-elim}
-use mathlib.Core.List.{List, [], _∷_}
-use mathlib.Core.Bool.{Bool, true, false, not, cond, _||_, _&&_}
+use mathlib.Core.Path.{_≡_, refl, sym, ap, ap₂, fun-ext, _∙_}
+use mathlib.Core.List.{List, []}
+use mathlib.Core.Bool.{Bool, true, false, not, cond, _&&_}
 use Prim.Native.Nat.{ℕ, zero, suc, _+_, _≤_, _<_}
 use native.Mathlib.Omega.{arith}
-use lib.Dec.{eqb, ltb}
+use lib.Dec.{ltb}
 use Rattle.std.proofs.shelf.Ways.{tells}
 use Rattle.weights.specs.Laws.{limit}
-use Rattle.cuts.specs.Kinds.{Kind, Lawful, AtMost}
+use Rattle.cuts.specs.Kinds.{Kind, Lawful}
 use Rattle.cuts.specs.Links.{Link, sum, Sound}
-use Rattle.cuts.specs.Divisions.{Division, only, differ, turned, weight-of, between, Weakest, Figure}
-use Rattle.cuts.specs.Claims.{Turned-weakest, Alike, Alike-same}
+use Rattle.cuts.specs.Divisions.{Division, only, differ, turned, weight-of, between, Figure}
+use Rattle.cuts.specs.Claims.{Turned-weakest, Alike-same}
 use Rattle.cuts.proofs.Rules.{weigh, heft, Two, cuts, cutsIn, into, relabel, Over, tie}
 use Rattle.cuts.proofs.Sums.{weigh-same, weigh-over, weigh-none, weigh-add, weigh-relabel}
 use Rattle.cuts.proofs.Points.{two-in, two-into}

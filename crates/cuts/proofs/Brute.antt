@@ -1,19 +1,17 @@
 -- The figure of a small plan, by trying every division.
-use mathlib.Core.Path.{_≡_, refl, sym, ap, subst, _∙_}
-use mathlib.Core.Logic.{_⊎_, inl, inr, ⊎-elim}
+use mathlib.Core.Path.{_≡_, sym, ap, _∙_}
+use mathlib.Core.Logic.{⊎-elim}
 use mathlib.Core.List.{List, [], _∷_}
 use mathlib.Core.Bool.{Bool, true, false, not, cond, _||_, _&&_}
-use Prim.Native.Nat.{ℕ, zero, suc, _+_, _≤_, _<_}
+use Prim.Native.Nat.{ℕ, zero, suc, _+_, _<_}
 use native.Mathlib.Omega.{arith}
 use lib.Dec.{eqb, ltb, leb}
 use Rattle.std.proofs.shelf.Ways.{tells}
-use Rattle.std.proofs.shelf.Tests.{cases-eq, cases-bool, and-parts, or-left, or-right, or-cases, not-true, not-false, leb-true, ltb-true}
+use Rattle.std.proofs.shelf.Tests.{cases-eq, cases-bool, and-parts, or-left, or-right, or-cases, not-true, leb-true, ltb-true}
 use Rattle.weights.specs.Laws.{limit}
 use Rattle.cuts.specs.Kinds.{Kind, Lawful, AtMost}
 use Rattle.cuts.specs.Links.{Link, load, Ends, Sound}
-use Rattle.cuts.specs.Divisions.{Division, weight-of, Weakest, Figure}
-use Rattle.cuts.proofs.Moves.{find-below}
-use Rattle.cuts.proofs.Mergers.{fit-weight}
+use Rattle.cuts.specs.Divisions.{Division, weight-of, Weakest}
 use Rattle.cuts.proofs.Ends.{weight-below}
 
 -- every number below n passes, or some does

@@ -1,21 +1,14 @@
 -- How many numbers below n pass a test.
 use mathlib.Core.Path.{_≡_, refl, sym, ap, _∙_}
 use mathlib.Core.Logic.{_⊎_, inl, inr, ⊎-elim}
-use mathlib.Core.Bool.{Bool, true, false, not, cond, _&&_}
+use mathlib.Core.Bool.{Bool, true, false, not, _&&_}
 use Prim.Native.Nat.{ℕ, zero, suc, _+_, _≤_, _<_}
 use native.Mathlib.Omega.{arith}
 use lib.Dec.{eqb}
 use Rattle.std.proofs.shelf.Ways.{tells}
-use Rattle.std.proofs.shelf.Tests.{cases-eq, cases-lt, cases-bool}
+use Rattle.std.proofs.shelf.Tests.{cases-eq}
+use Rattle.cuts.specs.Groups.{one, count-below}
 use Rattle.cuts.proofs.Moves.{find-below}
-
-abbrev pub one : Bool → ℕ
-one true = 1
-one false = 0
-
-abbrev pub count-below : ℕ → (ℕ → Bool) → ℕ
-count-below zero P = 0
-count-below (suc n) P = one (P n) + count-below n P
 
 -- those but w
 abbrev pub but : (ℕ → Bool) → ℕ → ℕ → Bool

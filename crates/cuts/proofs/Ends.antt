@@ -2,27 +2,26 @@
 use mathlib.Core.Path.{_≡_, refl, sym, ap, subst, _∙_}
 use mathlib.Core.Logic.{_⊎_, inl, inr, ⊎-elim}
 use mathlib.Core.List.{List, [], _∷_, _++_}
-use mathlib.Core.Bool.{Bool, true, false, not, cond, _||_, _&&_}
-use Prim.Native.Nat.{ℕ, zero, suc, _+_, _≤_, _<_}
+use mathlib.Core.Bool.{Bool, true, false}
+use Prim.Native.Nat.{ℕ, _+_, _≤_, _<_}
 use native.Mathlib.Omega.{arith}
 use lib.Dec.{eqb, ltb}
 use lib.ListN.{length, take, drop, length-take, take-append-drop}
 use lib.Seq.{take-take}
 use Rattle.std.proofs.shelf.Ways.{tells}
 use Rattle.std.proofs.shelf.Tests.{cases-lt, ltb-true}
-use Rattle.weights.specs.Laws.{limit}
 use Rattle.cuts.specs.declared.entry.Entry.{Entry}
 use Rattle.cuts.specs.Kinds.{Kind, Lawful, AtMost}
 use Rattle.cuts.specs.Links.{Link, Sound}
 use Rattle.cuts.specs.Divisions.{Division, weight-of, Weakest}
-use Rattle.cuts.specs.Groups.{after, group, stands, Whole, Joins, degree}
+use Rattle.cuts.specs.Groups.{after, group, stands, Whole, degree}
 use Rattle.cuts.specs.Claims.{Least-at}
 use Rattle.cuts.proofs.Rules.{cuts}
 use Rattle.cuts.proofs.Sums.{weigh-over}
 use Rattle.cuts.proofs.Served.{served, served-over, weight-cut}
 use Rattle.cuts.proofs.Counts.{two-left}
 use Rattle.cuts.proofs.Moves.{differing}
-use Rattle.cuts.proofs.Names.{Named, merged, after-append, after-more, named, named-more, lands, stands-less, joins-take, group-division, whole-own, own-whole}
+use Rattle.cuts.proofs.Names.{Named, merged, after-append, after-more, named, lands, stands-less, joins-take, group-division, whole-own, own-whole}
 use Rattle.cuts.proofs.Mergers.{Merged, single, more, Stood, stood-longer, fit-weight, at-least, through, merged-joins, best-least, best-present, best-stood}
 
 same-side : (S : ℕ → Bool) (u v g : ℕ) → S u ≡ S v → S g ≡ S (merged u v g)
@@ -81,7 +80,7 @@ module _ {V : Type 0} (K : Kind V) (laws : Lawful K) (n : ℕ) (ls : List (Link 
       let ga = lands n es names a la in
       let gb = lands n es names b lb in
       let apart : after es a ≡ after es b → ⊥ = λ e. let k = ap S e in grind arith in
-      let left = names .left in
+      let left = names .fewer in
       let each = two-left n (stands n es) (after es a) (after es b) (stands-less n es _ ga) (stands-less n es _ gb) ga gb apart (omega arith) in
       (after es a, ga, weight-below S (group es (after es a)) (λ x lx. own x ∙ one-side S (after es a) (after es b) (after es x) (each (after es x) (stands-less n es _ (lands n es names x lx)) (lands n es names x lx)) sg sk))
 

@@ -1,9 +1,8 @@
 -- The worked plans are right, each by computing: every division is tried, and the record is replayed.
-use mathlib.Core.Path.{_≡_, refl, sym, ap, _∙_}
+use mathlib.Core.Path.{_≡_, refl}
 use mathlib.Core.List.{List, [], _∷_}
-use mathlib.Core.Bool.{Bool, true, false, not, cond, _||_, _&&_}
-use Prim.Native.Nat.{ℕ, _+_, _≤_, _<_}
-use native.Mathlib.Omega.{arith}
+use mathlib.Core.Bool.{true, cond, _&&_}
+use Prim.Native.Nat.{ℕ, _+_}
 use lib.Dec.{leb, eqb}
 use lib.ListN.{getD}
 use Rattle.std.proofs.shelf.Tests.{eqb-true}
@@ -11,7 +10,7 @@ use Rattle.weights.specs.Laws.{limit}
 use Rattle.weights.proofs.Kept.{plain-laws, ranked-laws}
 use Rattle.cuts.specs.declared.ground.Ground.the-variants.{Heavy, Unbalanced, Triangle, Neighbourhood}
 use Rattle.cuts.specs.Kinds.{Kind, Lawful}
-use Rattle.cuts.specs.Links.{Link, sum, load}
+use Rattle.cuts.specs.Links.{sum, load}
 use Rattle.cuts.specs.Divisions.{turned, weight-of}
 use Rattle.cuts.specs.Outcomes.{marking}
 use Rattle.cuts.specs.Records.{Point, best-weight, ended}

@@ -1,25 +1,23 @@
 -- What the steps of the work come to, one by one: keys, joint weights and degrees, before and after a merger.
-use mathlib.Core.Path.{_≡_, refl, sym, ap, ap₂, fun-ext, _∙_}
-use mathlib.Core.Logic.{_⊎_, inl, inr, ⊎-elim}
-use mathlib.Core.List.{List, [], _∷_, _++_}
-use mathlib.Core.Bool.{Bool, true, false, not, cond, _||_, _&&_}
-use Prim.Native.Nat.{ℕ, zero, suc, _+_, _≤_, _<_}
+use mathlib.Core.Path.{_≡_, refl, sym, ap₂, _∙_}
+use mathlib.Core.List.{List, [], _∷_}
+use mathlib.Core.Bool.{Bool, true, false, cond, _&&_}
+use Prim.Native.Nat.{ℕ, _+_, _≤_}
 use native.Mathlib.Omega.{arith}
-use lib.Dec.{eqb, ltb}
 use Rattle.std.proofs.shelf.Ways.{tells}
 use Rattle.weights.specs.Laws.{limit}
 use Rattle.cuts.specs.declared.entry.Entry.{Entry}
-use Rattle.cuts.specs.Kinds.{Kind, Lawful, AtMost}
+use Rattle.cuts.specs.Kinds.{Kind, Lawful}
 use Rattle.cuts.specs.Links.{Link, sum, load, total, Ends, Sound}
-use Rattle.cuts.specs.Divisions.{only, weight-of}
-use Rattle.cuts.specs.Groups.{after, group, stands, degree, joint}
+use Rattle.cuts.specs.Divisions.{only}
+use Rattle.cuts.specs.Groups.{stands, degree, joint}
 use Rattle.cuts.specs.Scans.{has, key}
-use Rattle.cuts.proofs.Rules.{weigh, heft, Two, cuts, into, relabel, Over, deg, pull, tie}
-use Rattle.cuts.proofs.Sums.{weigh-none, weigh-add, weigh-same, weigh-over, weigh-relabel}
+use Rattle.cuts.proofs.Rules.{cuts, into}
+use Rattle.cuts.proofs.Sums.{weigh-none, weigh-add, weigh-same, weigh-over}
 use Rattle.cuts.proofs.Points.{two-into}
 use Rattle.cuts.proofs.Moves.{tie-sym}
 use Rattle.cuts.proofs.Served.{links-at, light-at, degree-deg, joint-tie, key-pull}
-use Rattle.cuts.proofs.Names.{Named, merged, after-more}
+use Rattle.cuts.proofs.Names.{Named}
 use Rattle.cuts.proofs.Grounds.{over-at}
 
 -- links in service weigh no more than all links

@@ -1,26 +1,25 @@
 -- Every scan finds a pair, and merges it.
-use mathlib.Core.Path.{_≡_, refl, sym, ap, subst, _∙_}
-use mathlib.Core.Logic.{_⊎_, inl, inr, ⊎-elim}
-use mathlib.Core.List.{List, [], _∷_, _++_}
-use mathlib.Core.Bool.{Bool, true, false, not, cond, _||_, _&&_}
+use mathlib.Core.Path.{_≡_, sym, ap, _∙_}
+use mathlib.Core.Logic.{⊎-elim}
+use mathlib.Core.List.{List, [], _∷_}
+use mathlib.Core.Bool.{Bool, true, false, cond, _||_, _&&_}
 use Prim.Native.Nat.{ℕ, zero, suc, _+_, _≤_, _<_}
 use native.Mathlib.Omega.{arith}
-use lib.Dec.{eqb, ltb, leb}
+use lib.Dec.{eqb}
 use lib.ListN.{length, length-append}
 use Rattle.std.proofs.shelf.Ways.{tells}
 use Rattle.std.proofs.shelf.Tests.{cases-eq, cases-bool}
 use Rattle.weights.specs.Laws.{limit}
 use Rattle.cuts.specs.declared.entry.Entry.{Entry}
 use Rattle.cuts.specs.declared.ground.Ground.the-variants.{Scan}
-use Rattle.cuts.specs.Kinds.{Kind, Lawful, AtMost, above}
+use Rattle.cuts.specs.Kinds.{Kind, Lawful, AtMost}
 use Rattle.cuts.specs.Links.{Link, Sound}
-use Rattle.cuts.specs.Divisions.{weight-of}
 use Rattle.cuts.specs.Groups.{after, group, stands, degree, joint}
 use Rattle.cuts.specs.Scans.{has, key, Order, Complete, raised, finds, found}
-use Rattle.cuts.specs.Records.{Point, merger, best-weight, ended, merge, merge-found, next-scan, scanned, Work}
+use Rattle.cuts.specs.Records.{Point, merger, best-weight, ended, merge, merge-found, next-scan}
 use Rattle.cuts.specs.Claims.{Scan-merges}
 use Rattle.cuts.proofs.Names.{Named, named, stands-less, stands-own, lands}
-use Rattle.cuts.proofs.Mergers.{Merged, fit-weight, merged-joins, best-present, length-more}
+use Rattle.cuts.proofs.Mergers.{fit-weight, merged-joins, best-present, length-more}
 use Rattle.cuts.proofs.Facts.{sums-fit, key-none, key-more, key-degree}
 use Rattle.cuts.proofs.Works.{goes-on, Each, Finding, found-each, work-merged}
 

@@ -1,13 +1,13 @@
 -- Each ground is safe: over the plan's own links, for divisions that keep the groups whole.
-use mathlib.Core.Path.{_≡_, refl, sym, ap, subst, fun-ext, _∙_}
-use mathlib.Core.Logic.{_⊎_, inl, inr, ⊎-elim}
+use mathlib.Core.Path.{_≡_, sym, ap, fun-ext, _∙_}
+use mathlib.Core.Logic.{inl, inr, ⊎-elim}
 use mathlib.Core.List.{List, [], _∷_}
-use mathlib.Core.Bool.{Bool, true, false, not, cond, _||_, _&&_}
-use Prim.Native.Nat.{ℕ, _+_, _≤_, _<_}
+use mathlib.Core.Bool.{Bool, true}
+use Prim.Native.Nat.{ℕ, _≤_}
 use native.Mathlib.Omega.{arith}
-use lib.Dec.{eqb, ltb}
+use lib.Dec.{ltb}
 use Rattle.std.proofs.shelf.Ways.{tells}
-use Rattle.std.proofs.shelf.Tests.{ltb-true, or-parts}
+use Rattle.std.proofs.shelf.Tests.{ltb-true}
 use Rattle.weights.specs.Laws.{limit}
 use Rattle.cuts.specs.declared.entry.Entry.{Entry}
 use Rattle.cuts.specs.declared.ground.Ground.{Ground}
@@ -15,16 +15,16 @@ use Rattle.cuts.specs.declared.ground.Ground.the-variants.{Heavy, Unbalanced, 
 use Rattle.cuts.specs.Kinds.{Kind, Lawful, AtMost}
 use Rattle.cuts.specs.Links.{Link, Sound}
 use Rattle.cuts.specs.Divisions.{Division, weight-of}
-use Rattle.cuts.specs.Groups.{after, group, stands, Whole, Joins, degree, joint}
-use Rattle.cuts.specs.Tests.{third, gathered, Meets}
-use Rattle.cuts.specs.Scans.{has, key, Order, Capped}
-use Rattle.cuts.specs.Claims.{Loses-nothing, Grounds-safe, Scan-safe}
-use Rattle.cuts.proofs.Rules.{cuts, relabel, Over, cut, deg, pull, tie}
+use Rattle.cuts.specs.Groups.{after, stands, Whole, degree}
+use Rattle.cuts.specs.Tests.{third, Meets}
+use Rattle.cuts.specs.Scans.{Order, Capped}
+use Rattle.cuts.specs.Claims.{Loses-nothing, Grounds-safe, Scan-safe, Order-safe}
+use Rattle.cuts.proofs.Rules.{cuts, relabel, Over, cut}
 use Rattle.cuts.proofs.Sums.{weigh-relabel}
 use Rattle.cuts.proofs.Served.{served, served-over, links-at, light-at, weight-cut, degree-deg, joint-tie, key-pull, gathered-gather}
 use Rattle.cuts.proofs.Names.{Named, named, lands, stands-less, stands-own, whole-own, own-whole}
 use Rattle.cuts.proofs.Moves.{Splits, Safe, turned-safe, tie-sym, heavy-safe, unbalanced-safe, triangle-safe}
-use Rattle.cuts.proofs.Neighbours.{gather, neighbourhood-safe}
+use Rattle.cuts.proofs.Neighbours.{neighbourhood-safe}
 use Rattle.cuts.proofs.Ordered.{Taken, capped-scan}
 
 over-relabel : {V : Type 0} (G H : ℕ → Bool) (f : ℕ → ℕ) (ls : List (ℕ × ℕ × V)) → ((x : ℕ) → G x ≡ true → H (f x) ≡ true) → Over G ls → Over H (relabel f ls)
@@ -110,3 +110,6 @@ scan-safe K laws n ls sound es joins cap fit v taken order w sw out h S whole pa
     let names = named n es joins in
     rw (whole-cut K laws n ls sound es names S (whole-own n es S names whole))
     (capped-scan K laws (links-at ls es) (light-at K laws n ls sound es) cap fit (stands n es) v taken (taken-at K laws n ls sound es names cap (v ∷ taken) order) w sw out (rw (key-pull K laws n ls sound es (v ∷ taken) w out) at h) S parted)
+
+pub order-safe : {V : Type 0} (K : Kind V) → Lawful K → Order-safe K
+order-safe K laws n ls sound es joins bound fit v taken order = scan-safe K laws n ls sound es joins bound fit v taken (order-capped K laws n ls sound es (named n es joins) bound (v ∷ taken) order)

@@ -1,17 +1,17 @@
 -- A weakest division stays weakest under the edits of the table.
-use mathlib.Core.Path.{_≡_, refl, sym, ap, subst, _∙_}
+use mathlib.Core.Path.{_≡_, refl, sym, ap, _∙_}
 use mathlib.Core.Logic.{_⊎_, inl, inr, ⊎-elim}
 use mathlib.Core.List.{List, [], _∷_, _++_, append-nil}
-use mathlib.Core.Bool.{Bool, true, false, not, cond, _||_, _&&_}
+use mathlib.Core.Bool.{Bool, true, false, cond, _&&_}
 use Prim.Native.Nat.{ℕ, _+_, _≤_}
 use native.Mathlib.Omega.{arith}
 use Rattle.std.proofs.shelf.Tests.{cases-bool}
 use Rattle.weights.specs.Laws.{limit}
 use Rattle.cuts.specs.Kinds.{Kind, Lawful, AtMost}
-use Rattle.cuts.specs.Links.{Link, sum, load, Ends, Sound}
+use Rattle.cuts.specs.Links.{Link, sum, load, Ends}
 use Rattle.cuts.specs.Divisions.{Division, differ, weight-of, Weakest}
-use Rattle.cuts.specs.Edits.{reweighed, marked, One-side, Different-sides, adds, Stays, Change-keeps, Edits-keep}
-use Rattle.cuts.proofs.Sums.{same, left-comm, more}
+use Rattle.cuts.specs.Edits.{reweighed, marked, One-side, Different-sides, adds, Change-keeps, Edits-keep}
+use Rattle.cuts.proofs.Sums.{same, left-comm}
 use Rattle.cuts.proofs.Moves.{differing}
 use Rattle.cuts.proofs.Facts.{sum-amount}
 

@@ -21,3 +21,5 @@ pub mod Examples
 pub mod Steps
 pub mod Outcomes
 pub mod Noted
+pub mod Always
+pub mod Fills

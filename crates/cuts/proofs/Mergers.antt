@@ -2,29 +2,27 @@
 use mathlib.Core.Path.{_≡_, refl, sym, ap, subst, fun-ext, _∙_}
 use mathlib.Core.Logic.{_⊎_, inl, inr, ⊎-elim}
 use mathlib.Core.List.{List, [], _∷_, _++_}
-use mathlib.Core.Bool.{Bool, true, false, not, cond, _||_, _&&_}
+use mathlib.Core.Bool.{Bool, true, false, cond}
 use Prim.Native.Nat.{ℕ, zero, suc, _+_, _≤_, _<_}
 use native.Mathlib.Omega.{arith}
-use lib.Dec.{eqb, ltb, leb}
-use lib.ListN.{length, take, drop, length-append, length-take, take-append-drop}
-use lib.Seq.{take-all, take-append-le, take-take}
+use lib.Dec.{eqb}
+use lib.ListN.{length, take, length-append}
+use lib.Seq.{take-all, take-append-le}
 use Rattle.std.proofs.shelf.Ways.{tells}
 use Rattle.std.proofs.shelf.Tests.{cases-eq, cases-lt, cases-bool}
 use Rattle.weights.specs.Laws.{limit}
 use Rattle.cuts.specs.declared.entry.Entry.{Entry}
-use Rattle.cuts.specs.Kinds.{Kind, Lawful, AtMost, above}
+use Rattle.cuts.specs.Kinds.{Kind, Lawful, AtMost}
 use Rattle.cuts.specs.Links.{Link, Sound}
-use Rattle.cuts.specs.Divisions.{Division, only, weight-of}
-use Rattle.cuts.specs.Groups.{after, group, stands, Whole, Joins, degree}
+use Rattle.cuts.specs.Divisions.{weight-of}
+use Rattle.cuts.specs.Groups.{group, stands, Joins, degree}
 use Rattle.cuts.specs.Records.{better}
-use Rattle.cuts.specs.Claims.{Loses-nothing, Least-at}
+use Rattle.cuts.specs.Claims.{Loses-nothing}
 use Rattle.cuts.proofs.Rules.{cuts}
 use Rattle.cuts.proofs.Sums.{same, fits}
 use Rattle.cuts.proofs.Points.{two-cuts}
 use Rattle.cuts.proofs.Served.{served, light, weight-cut}
-use Rattle.cuts.proofs.Counts.{count-below, two-left}
-use Rattle.cuts.proofs.Names.{Named, merged, after-append, after-more, named, named-none, named-more, lands, stands-less, stands-own, joins-more, joins-take, group-division, whole-own, own-whole, stands-more}
-use Rattle.cuts.proofs.Grounds.{whole-cut}
+use Rattle.cuts.proofs.Names.{Named, after-more, named, stands-less, joins-more, stands-more}
 
 -- mergers, each of a pair that may be merged, with the group that is best after them
 pub data Merged {V : Type 0} (K : Kind V) (n : ℕ) (ls : List (Link V)) : List Entry → (ℕ → Bool) → Type 0 where

@@ -1,18 +1,18 @@
 -- Moving one group to the other side of a division, over links between groups.
-use mathlib.Core.Path.{_≡_, refl, sym, ap, ap₂, _∙_}
+use mathlib.Core.Path.{_≡_, sym, _∙_}
 use mathlib.Core.Logic.{_⊎_, inl, inr, ⊎-elim}
 use mathlib.Core.List.{List, [], _∷_}
-use mathlib.Core.Bool.{Bool, true, false, not, cond, _||_, _&&_}
+use mathlib.Core.Bool.{Bool, true, false, not, cond, _&&_}
 use Prim.Native.Nat.{ℕ, zero, suc, _+_, _≤_, _<_}
 use native.Mathlib.Omega.{arith}
-use lib.Dec.{eqb, ltb}
+use lib.Dec.{eqb}
 use Rattle.std.proofs.shelf.Ways.{tells}
 use Rattle.std.proofs.shelf.Tests.{cases-lt, cases-bool}
 use Rattle.weights.specs.Laws.{limit}
 use Rattle.cuts.specs.Kinds.{Kind, Lawful, AtMost}
 use Rattle.cuts.specs.Divisions.{only}
 use Rattle.cuts.specs.Scans.{has}
-use Rattle.cuts.proofs.Rules.{weigh, heft, Two, cuts, into, moved, Over, cut, deg, pull, tie}
+use Rattle.cuts.proofs.Rules.{heft, Two, cuts, into, moved, Over, cut, deg, pull, tie}
 use Rattle.cuts.proofs.Sums.{weigh-same, weigh-over, fits, trans-at, weigh-add, weigh-mono, grow-by, cancel}
 use Rattle.cuts.proofs.Points.{two-cuts, two-into, own, across, rest, own-across, across-rest, moved-rest, two-moved, two-across, key-across, two-point}
 

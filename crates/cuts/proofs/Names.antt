@@ -1,8 +1,8 @@
 -- The groups that mergers make: each goes by its lowest unit, and each merger leaves one fewer.
 use mathlib.Core.Path.{_≡_, refl, sym, ap, subst, _∙_}
-use mathlib.Core.Logic.{_⊎_, inl, inr, ⊎-elim}
+use mathlib.Core.Logic.{⊎-elim}
 use mathlib.Core.List.{List, [], _∷_, _++_, append-assoc, append-nil}
-use mathlib.Core.Bool.{Bool, true, false, not, cond, _&&_}
+use mathlib.Core.Bool.{Bool, true, not, cond, _&&_}
 use Prim.Native.Nat.{ℕ, zero, suc, _+_, _≤_, _<_}
 use native.Mathlib.Omega.{arith}
 use lib.Dec.{eqb, ltb}
@@ -11,8 +11,9 @@ use Rattle.std.proofs.shelf.Ways.{tells}
 use Rattle.std.proofs.shelf.Tests.{cases-eq, cases-lt}
 use Rattle.cuts.specs.declared.entry.Entry.{Entry}
 use Rattle.cuts.specs.Divisions.{Division}
-use Rattle.cuts.specs.Groups.{after, group, stands, Whole, Joins}
-use Rattle.cuts.proofs.Counts.{count-below, but, count-same, count-all, count-but, another}
+use Rattle.cuts.specs.Groups.{after, group, stands, left, Whole, Joins}
+use Rattle.cuts.specs.Claims.{Groups-named}
+use Rattle.cuts.proofs.Counts.{but, count-same, count-all, count-but, another}
 
 -- v called u
 abbrev pub merged : ℕ → ℕ → ℕ → ℕ
@@ -30,14 +31,14 @@ pub record Named (n : ℕ) (es : List Entry) : Type 0 where
   pub own : (x : ℕ) → after es (after es x) ≡ after es x
   pub lowest : (x : ℕ) → after es x ≤ x
   pub outside : (x : ℕ) → n ≤ x → after es x ≡ x
-  pub left : count-below n (stands n es) + length es ≡ n
+  pub fewer : left n es + length es ≡ n
 
 pub named-none : (n : ℕ) → Named n []
 named-none n = record {
   own = λ x. refl;
   lowest = λ x. omega arith;
   outside = λ x h. refl;
-  left = let e = count-all n (stands n []) (λ x h. grind (arith, tells)) in omega arith;
+  fewer = let e = count-all n (stands n []) (λ x h. grind (arith, tells)) in omega arith;
 }
 
 module _ (f : ℕ → ℕ) (u v : ℕ) (less : u < v) where
@@ -72,10 +73,10 @@ module _ (n : ℕ) (es : List Entry) (e : Entry) (named : Named n es) (low : sta
     own = λ x. ap (after (es ++ (e ∷ []))) (after-more es e x) ∙ after-more es e _ ∙ merged-own (after es) (e .low) (e .high) less x (named .own x) (stands-own n es (e .low) low) ∙ sym (after-more es e x);
     lowest = λ x. rw (after-more es e x) (merged-lowest (after es) (e .low) (e .high) less x (named .lowest x));
     outside = λ x h. after-more es e x ∙ ap (merged (e .low) (e .high)) (named .outside x h) ∙ (let k = stands-less n es (e .high) high in grind (arith, tells));
-    left =
+    fewer =
         let a = count-same n (stands n (es ++ (e ∷ []))) (but (stands n es) (e .high)) (λ x h. stands-more x) in
         let b = count-but n (stands n es) (e .high) (stands-less n es (e .high) high) high in
-        let c = named .left in
+        let c = named .fewer in
         let d = length-append es (e ∷ []) in
         omega arith;
   }
@@ -104,7 +105,7 @@ joins-take n done (e ∷ es) (suc k) (p, q, r, rest) = (p, q, r, joins-take n (d
 -- where two groups stand, each is a division
 pub group-division : (n : ℕ) (es : List Entry) → Named n es → length es + 2 ≤ n → (g : ℕ) → stands n es g ≡ true → Division n (group es g)
 group-division n es named room g h =
-    let count = named .left in
+    let count = named .fewer in
     let (w, lw, pw, apart) = another n (stands n es) g (stands-less n es g h) h (omega arith) in
     let own = stands-own n es w pw in
     let own-g = stands-own n es g h in
@@ -118,3 +119,6 @@ whole-own n es S named whole x =
 
 pub own-whole : (n : ℕ) (es : List Entry) (S : ℕ → Bool) → ((x : ℕ) → S x ≡ S (after es x)) → Whole n es S
 own-whole n es S h x y lx ly e = h x ∙ ap S e ∙ sym (h y)
+
+pub groups-named : Groups-named
+groups-named n es joins = let names = named n es joins in (names .lowest, names .own, names .fewer)

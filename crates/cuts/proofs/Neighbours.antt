@@ -2,17 +2,17 @@
 use mathlib.Core.Path.{_≡_, refl, sym, ap, ap₂, _∙_}
 use mathlib.Core.Logic.{_⊎_, inl, inr, ⊎-elim}
 use mathlib.Core.List.{List, [], _∷_}
-use mathlib.Core.Bool.{Bool, true, false, not, cond, _||_, _&&_}
+use mathlib.Core.Bool.{Bool, true, false, cond, _||_}
 use Prim.Native.Nat.{ℕ, zero, suc, _+_, _≤_, _<_}
 use native.Mathlib.Omega.{arith}
-use lib.Dec.{eqb, ltb}
+use lib.Dec.{eqb}
 use Rattle.std.proofs.shelf.Ways.{tells}
 use Rattle.std.proofs.shelf.Tests.{cases-bool}
 use Rattle.weights.specs.Laws.{limit}
 use Rattle.cuts.specs.Kinds.{Kind, Lawful, AtMost, lesser}
 use Rattle.cuts.specs.Divisions.{only}
 use Rattle.cuts.specs.Scans.{has}
-use Rattle.cuts.proofs.Rules.{weigh, heft, Two, cuts, cutsIn, into, cut, tie}
+use Rattle.cuts.proofs.Rules.{weigh, heft, Two, cuts, cutsIn, into, tie}
 use Rattle.cuts.proofs.Sums.{same, weigh-same, fits, trans-at, weigh-add, weigh-mono, both-grow}
 use Rattle.cuts.proofs.Points.{two-cuts, two-into, two-in, in-one, part-point, star-first, star-more, within, within-first, within-more, within-one}
 use Rattle.cuts.proofs.Moves.{differing, Safe}

@@ -1,14 +1,13 @@
 -- Pairs that are noted, and pairs that are found, merge to the same.
-use mathlib.Core.Path.{_≡_, refl, sym, ap, ap₂, subst, fun-ext, _∙_}
+use mathlib.Core.Path.{_≡_, refl, sym, ap, fun-ext, _∙_}
 use mathlib.Core.Logic.{_⊎_, inl, inr, ⊎-elim}
 use mathlib.Core.List.{List, [], _∷_, _++_}
-use mathlib.Core.Bool.{Bool, true, false, not, cond, _||_, _&&_}
+use mathlib.Core.Bool.{Bool, true, false, cond, _||_}
 use Prim.Native.Nat.{ℕ, _+_, _≤_, _<_, min, max}
 use native.Mathlib.Omega.{arith}
-use lib.Dec.{eqb, leb}
+use lib.Dec.{eqb}
 use Rattle.std.proofs.shelf.Ways.{tells}
-use Rattle.std.proofs.shelf.Tests.{cases-bool, cases-eq, cases-lt, cases-order, eqb-true, eqb-false, or-cases, or-parts}
-use Rattle.cuts.specs.declared.entry.Entry.{Entry}
+use Rattle.std.proofs.shelf.Tests.{cases-lt, eqb-true, eqb-false, or-cases, or-parts}
 use Rattle.cuts.specs.declared.ground.Ground.the-variants.{Scan}
 use Rattle.cuts.specs.Kinds.{Kind}
 use Rattle.cuts.specs.Links.{Link}

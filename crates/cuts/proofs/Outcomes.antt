@@ -1,18 +1,17 @@
 -- What is promised of an answer follows from the record theorem.
 use mathlib.Core.Path.{_≡_, refl, sym, ap, subst, _∙_}
 use mathlib.Core.List.{List, []}
-use mathlib.Core.Bool.{Bool, true, false, not, cond}
+use mathlib.Core.Bool.{Bool, true, false, cond}
 use Prim.Native.Nat.{ℕ, _+_, _≤_, _<_}
 use native.Mathlib.Omega.{arith}
 use lib.Dec.{eqb}
-use lib.ListN.{length, take, getD}
-use Rattle.cuts.specs.declared.entry.Entry.{Entry}
+use lib.ListN.{length, take}
 use Rattle.cuts.specs.Kinds.{Kind, Lawful, above}
 use Rattle.cuts.specs.Links.{Link, Sound}
 use Rattle.cuts.specs.Divisions.{Division, turned, weight-of, Weakest}
 use Rattle.cuts.specs.Groups.{Joins}
 use Rattle.cuts.specs.Claims.{Least-at}
-use Rattle.cuts.specs.Outcomes.{marking, Outcome, Promised, Outcome-promised}
+use Rattle.cuts.specs.Outcomes.{marking, Outcome-promised}
 use Rattle.cuts.proofs.Ends.{weight-below}
 use Rattle.cuts.proofs.Alike.{turned-weakest}
 use Rattle.cuts.proofs.Works.{record-least}

@@ -1,15 +1,15 @@
 -- What holds link by link.
-use mathlib.Core.Path.{_≡_, refl, sym, ap, _∙_}
+use mathlib.Core.Path.{_≡_}
 use mathlib.Core.Logic.{_⊎_}
-use mathlib.Core.List.{List, [], _∷_}
-use mathlib.Core.Bool.{Bool, true, false, not, cond, _||_, _&&_}
-use Prim.Native.Nat.{ℕ, zero, suc, _+_, _-_, _≤_}
+use mathlib.Core.List.{[], _∷_}
+use mathlib.Core.Bool.{Bool, true, false, cond, _||_, _&&_}
+use Prim.Native.Nat.{ℕ, _+_, _-_, _≤_}
 use native.Mathlib.Omega.{arith}
 use lib.Dec.{eqb}
 use Rattle.std.proofs.shelf.Ways.{tells}
 use Rattle.cuts.specs.Divisions.{only}
 use Rattle.cuts.specs.Scans.{has}
-use Rattle.cuts.proofs.Rules.{Two, apart, both, cuts, cutsIn, into, moved}
+use Rattle.cuts.proofs.Rules.{Two, cuts, cutsIn, into, moved}
 
 pub two-cuts : (S : ℕ → Bool) → Two (cuts S)
 two-cuts S x y = grind (arith, tells)

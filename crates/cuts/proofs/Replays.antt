@@ -1,21 +1,21 @@
 -- A record replayed: each step tested by computation, so that a point reached is one that the work allows.
-use mathlib.Core.Path.{_≡_, refl, sym, ap, subst, _∙_}
-use mathlib.Core.Logic.{_⊎_, inl, inr, ⊎-elim}
+use mathlib.Core.Path.{_≡_, refl}
+use mathlib.Core.Logic.{inl, inr, ⊎-elim}
 use mathlib.Core.List.{List, [], _∷_}
-use mathlib.Core.Bool.{Bool, true, false, not, cond, _||_, _&&_}
-use Prim.Native.Nat.{ℕ, zero, suc, _+_, _≤_, _<_}
+use mathlib.Core.Bool.{Bool, true, false, not, _||_, _&&_}
+use Prim.Native.Nat.{ℕ, _<_}
 use native.Mathlib.Omega.{arith}
 use lib.Dec.{eqb, ltb, leb}
 use Rattle.std.proofs.shelf.Ways.{tells}
-use Rattle.std.proofs.shelf.Tests.{cases-bool, and-parts, and-cases, or-cases, or-parts, not-true, not-false, ltb-true}
+use Rattle.std.proofs.shelf.Tests.{and-parts, and-cases, or-cases, or-parts, not-true, ltb-true}
 use Rattle.cuts.specs.declared.entry.Entry.{Entry}
 use Rattle.cuts.specs.declared.ground.Ground.{Ground}
 use Rattle.cuts.specs.declared.ground.Ground.the-variants.{Heavy, Unbalanced, Triangle, Neighbourhood, Scan}
 use Rattle.cuts.specs.Numbers.{groundNumber}
-use Rattle.cuts.specs.Kinds.{Kind, AtMost, above}
+use Rattle.cuts.specs.Kinds.{Kind, above}
 use Rattle.cuts.specs.Links.{Link}
 use Rattle.cuts.specs.Groups.{group, stands, degree, joint}
-use Rattle.cuts.specs.Tests.{third, twice, gathered, Meets, Pair, First, None}
+use Rattle.cuts.specs.Tests.{third, twice, gathered, Meets, Pair, First}
 use Rattle.cuts.specs.Scans.{has, key, Order, Complete}
 use Rattle.cuts.specs.Records.{Point, merger, Lightest, best-weight, ended, merge, scanned, Work, begin, test, scan}
 use Rattle.cuts.proofs.Names.{stands-less}
@@ -37,7 +37,7 @@ module _ {V : Type 0} (K : Kind V) (n : ℕ) (ls : List (Link V)) (es : List Ent
   meets u v Neighbourhood = K .at-most best (gathered K n ls es u v n)
   meets u v Scan = false
 
-  meets-sound : (u v : ℕ) (ground : Ground) → meets u v ground ≡ true → Meets K n ls es best u v ground
+  pub meets-sound : (u v : ℕ) (ground : Ground) → meets u v ground ≡ true → Meets K n ls es best u v ground
   unfolding meets
   meets-sound u v Heavy h = h
   meets-sound u v Unbalanced h = or-cases _ _ h
@@ -49,7 +49,7 @@ module _ {V : Type 0} (K : Kind V) (n : ℕ) (ls : List (Link V)) (es : List Ent
   meets-sound u v Neighbourhood h = h
   meets-sound u v Scan h = absurd (grind arith)
 
-  meets-not : (u v : ℕ) (ground : Ground) → meets u v ground ≡ false → Meets K n ls es best u v ground → ⊥
+  pub meets-not : (u v : ℕ) (ground : Ground) → meets u v ground ≡ false → Meets K n ls es best u v ground → ⊥
   unfolding meets
   meets-not u v Heavy h m = grind arith
   meets-not u v Unbalanced h (inl m) = let r = or-parts (K .at-most (degree K ls es u) (twice K n ls es (joint K ls es u v))) (K .at-most (degree K ls es v) (twice K n ls es (joint K ls es u v))) h in grind arith
@@ -67,7 +67,7 @@ module _ {V : Type 0} (K : Kind V) (n : ℕ) (ls : List (Link V)) (es : List Ent
   unfoldable pub pair : ℕ → ℕ → Bool
   pair u v = (stands n es u && stands n es v) && (ltb u v && above K (joint K ls es u v))
 
-  pair-sound : (u v : ℕ) → pair u v ≡ true → Pair K n ls es u v
+  pub pair-sound : (u v : ℕ) → pair u v ≡ true → Pair K n ls es u v
   unfolding pair
   pair-sound u v h =
       let p = and-parts (stands n es u && stands n es v) _ h in
@@ -75,7 +75,7 @@ module _ {V : Type 0} (K : Kind V) (n : ℕ) (ls : List (Link V)) (es : List Ent
       let r = and-parts (ltb u v) (above K (joint K ls es u v)) (p .1) in
       (q .0, q .1, ltb-true u v (r .0), r .1)
 
-  pair-from : (u v : ℕ) → Pair K n ls es u v → pair u v ≡ true
+  pub pair-from : (u v : ℕ) → Pair K n ls es u v → pair u v ≡ true
   unfolding pair
   pair-from u v (p, q, r, s) = let t : ltb u v ≡ true = grind (arith, tells) in rw (p, q, t, s)
 

@@ -1,21 +1,21 @@
 -- From plain sums over the links of a plan to weighing by rules, over the links between groups.
 use mathlib.Core.Path.{_≡_, refl, sym, ap, ap₂, _∙_}
 use mathlib.Core.List.{List, [], _∷_}
-use mathlib.Core.Bool.{Bool, true, false, not, cond, _||_, _&&_}
-use Prim.Native.Nat.{ℕ, zero, suc, _+_, _≤_, _<_}
+use mathlib.Core.Bool.{Bool, true, false, cond, _||_, _&&_}
+use Prim.Native.Nat.{ℕ, zero, suc, _+_, _≤_}
 use native.Mathlib.Omega.{arith}
 use lib.Dec.{eqb, ltb}
 use Rattle.std.proofs.shelf.Ways.{tells}
 use Rattle.std.proofs.shelf.Tests.{lt-ltb}
 use Rattle.weights.specs.Laws.{limit}
 use Rattle.cuts.specs.declared.entry.Entry.{Entry}
-use Rattle.cuts.specs.Kinds.{Kind, Lawful, AtMost, lesser}
+use Rattle.cuts.specs.Kinds.{Kind, Lawful, lesser}
 use Rattle.cuts.specs.Links.{Link, sum, load, Ends, Sound}
 use Rattle.cuts.specs.Divisions.{only, differ, weight-of, between}
-use Rattle.cuts.specs.Groups.{after, group, stands, degree, joint}
+use Rattle.cuts.specs.Groups.{after, group, degree, joint}
 use Rattle.cuts.specs.Tests.{third, gathered}
 use Rattle.cuts.specs.Scans.{has, key}
-use Rattle.cuts.proofs.Rules.{times, weigh, heft, Two, apart, both, cuts, into, relabel, Over, cut, deg, pull, tie}
+use Rattle.cuts.proofs.Rules.{times, weigh, heft, apart, both, cuts, into, relabel, Over, cut, deg, pull, tie}
 use Rattle.cuts.proofs.Sums.{right, fits, weigh-same, weigh-relabel, heft-relabel}
 use Rattle.cuts.proofs.Neighbours.{gather}
 

@@ -1,9 +1,8 @@
 -- What a merger does to joint weights and degrees, degrees as sums of joint weights, and which sums are not refused.
 use mathlib.Core.Path.{_≡_, refl, sym, ap, ap₂, fun-ext, _∙_}
-use mathlib.Core.Logic.{_⊎_, inl, inr, ⊎-elim}
 use mathlib.Core.List.{List, [], _∷_, _++_}
 use mathlib.Core.Bool.{Bool, true, false, not, cond, _||_, _&&_}
-use Prim.Native.Nat.{ℕ, zero, suc, _+_, _≤_, _<_}
+use Prim.Native.Nat.{ℕ, zero, suc, _+_, _≤_}
 use native.Mathlib.Omega.{arith}
 use lib.Dec.{eqb, ltb}
 use Rattle.std.proofs.shelf.Ways.{tells}
@@ -14,13 +13,13 @@ use Rattle.cuts.specs.Links.{Link, sum, Sound}
 use Rattle.cuts.specs.Divisions.{only, weight-of}
 use Rattle.cuts.specs.Groups.{after, group, stands, degree, joint}
 use Rattle.cuts.specs.Tests.{third, gathered}
-use Rattle.cuts.proofs.Rules.{weigh, heft, Two, cuts, into, relabel, Over, deg, tie}
-use Rattle.cuts.proofs.Sums.{weigh-none, weigh-add, weigh-same, weigh-over, weigh-relabel, fits-both, fits}
-use Rattle.cuts.proofs.Points.{two-cuts, two-into, within, within-one, within-more}
-use Rattle.cuts.proofs.Served.{served, light, links-at, light-at, degree-deg, joint-tie, gathered-gather}
+use Rattle.cuts.proofs.Rules.{weigh, Two, cuts, into, relabel, tie}
+use Rattle.cuts.proofs.Sums.{weigh-none, weigh-add, weigh-same, weigh-over, weigh-relabel, fits-both}
+use Rattle.cuts.proofs.Points.{two-into, within-one, within-more}
+use Rattle.cuts.proofs.Served.{served, links-at, light-at, degree-deg, joint-tie, gathered-gather}
 use Rattle.cuts.proofs.Names.{Named, merged, after-more}
 use Rattle.cuts.proofs.Grounds.{over-at}
-use Rattle.cuts.proofs.Neighbours.{below, not-below, gather, gather-in, chosen}
+use Rattle.cuts.proofs.Neighbours.{below, not-below, gather-in, chosen}
 
 -- the joint weights of g with the groups below k, added up one by one
 abbrev pub joined : {V : Type 0} → Kind V → ℕ → List (Link V) → List Entry → ℕ → ℕ → V

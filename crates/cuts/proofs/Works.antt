@@ -1,27 +1,27 @@
 -- The work loses nothing: each of its mergers is of a pair that may be merged.
-use mathlib.Core.Path.{_≡_, refl, sym, ap, subst, _∙_}
+use mathlib.Core.Path.{_≡_, refl, sym, ap, _∙_}
 use mathlib.Core.Logic.{_⊎_, inl, inr, ⊎-elim}
 use mathlib.Core.List.{List, [], _∷_, _++_}
-use mathlib.Core.Bool.{Bool, true, false, not, cond, _||_, _&&_}
+use mathlib.Core.Bool.{Bool, true, false, not, cond, _||_}
 use Prim.Native.Nat.{ℕ, zero, suc, _+_, _≤_, _<_, min, max}
 use native.Mathlib.Omega.{arith}
-use lib.Dec.{eqb, ltb, leb}
-use lib.ListN.{length, take}
+use lib.Dec.{eqb, leb}
+use lib.ListN.{length}
 use Rattle.std.proofs.shelf.Ways.{tells}
-use Rattle.std.proofs.shelf.Tests.{cases-lt, cases-order, cases-bool, eqb-false, or-parts, or-cases, leb-true, leb-false}
+use Rattle.std.proofs.shelf.Tests.{cases-lt, eqb-false, or-parts, or-cases, leb-true, leb-false}
 use Rattle.weights.specs.Laws.{limit}
 use Rattle.cuts.specs.declared.entry.Entry.{Entry}
 use Rattle.cuts.specs.declared.ground.Ground.{Ground}
 use Rattle.cuts.specs.declared.ground.Ground.the-variants.{Scan}
 use Rattle.cuts.specs.Kinds.{Kind, Lawful, AtMost, above}
 use Rattle.cuts.specs.Links.{Link, Sound}
-use Rattle.cuts.specs.Divisions.{Division, weight-of}
+use Rattle.cuts.specs.Divisions.{weight-of}
 use Rattle.cuts.specs.Groups.{after, group, stands, Whole, Joins, degree}
 use Rattle.cuts.specs.Scans.{has, key, Order, finds, found, raised}
-use Rattle.cuts.specs.Records.{Point, merger, Lightest, best-weight, ended, better, merge, merge-found, next-scan, scanned, Work, begin, test, scan}
-use Rattle.cuts.specs.Claims.{Loses-nothing, Answers, Record-least}
-use Rattle.cuts.proofs.Names.{Named, merged, after-more, named, lands, stands-less, stands-own, whole-own, own-whole}
-use Rattle.cuts.proofs.Grounds.{grounds-safe, scan-safe, order-capped}
+use Rattle.cuts.specs.Records.{Point, merger, best-weight, ended, better, merge, merge-found, next-scan, Work, begin, test, scan}
+use Rattle.cuts.specs.Claims.{Loses-nothing, Record-least}
+use Rattle.cuts.proofs.Names.{Named, merged, after-more, named, lands, stands-less, whole-own, own-whole}
+use Rattle.cuts.proofs.Grounds.{grounds-safe, order-safe}
 use Rattle.cuts.proofs.Mergers.{Merged, single, more, fit-weight, at-least, through, better-old, merged-joins, best-present}
 use Rattle.cuts.proofs.Ends.{merged-weakest, merged-points}
 
@@ -87,7 +87,7 @@ module _ {V : Type 0} (K : Kind V) (laws : Lawful K) (n : ℕ) (ls : List (Link 
               one = order .0;
               other = stood;
               apart = grind (arith, tells);
-              parted = λ S whole parted. scan-safe K laws n ls sound es joins bound fit v taken (order-capped K laws n ls sound es (named n es joins) bound (v ∷ taken) order) k stood out comes S whole parted;
+              parted = λ S whole parted. order-safe K laws n ls sound es joins bound fit v taken order k stood out comes S whole parted;
             }
 
         go : (b : Bool) → raised K n ls es bound v taken k ≡ b → Each (Finding es bound) (cond b ((v, k) ∷ []) [])
@@ -178,6 +178,17 @@ module _ {V : Type 0} (K : Kind V) (laws : Lawful K) (n : ℕ) (ls : List (Link 
       let names = named n (p .done) (j .0) in
       within-found two p (found K n ls (p .done) (best-weight K n ls p) taken) (found-each (p .done) (j .0) (best-weight K n ls p) (fit-weight K laws n ls sound (p .best)) taken order) (next-scan K n ls p)
       (record { coarser = λ x. sym (names .own x); lighter = at-least K laws n ls sound (p .best); mergers = m }) .mergers
+
+-- what holds at each point of the work: names, groups left, and best at most every group's degree
+pub work-named : {V : Type 0} (K : Kind V) (laws : Lawful K) (n : ℕ) (ls : List (Link V)) (sound : Sound K n ls) → 2 ≤ n → {p : Point} → Work K n ls p → Joins n [] (p .done) × Named n (p .done) × (length (p .done) + 2 ≤ n)
+work-named K laws n ls sound two {p} w = let j = merged-joins K laws n ls sound two (work-merged K laws n ls sound two w) in (j .0, named n (p .done) (j .0), j .1)
+
+pub work-best : {V : Type 0} (K : Kind V) (laws : Lawful K) (n : ℕ) (ls : List (Link V)) (sound : Sound K n ls) → 2 ≤ n → {p : Point} → Work K n ls p → (g : ℕ) → stands n (p .done) g ≡ true → AtMost K (best-weight K n ls p) (degree K ls (p .done) g)
+work-best K laws n ls sound two w = best-present K laws n ls sound two (work-merged K laws n ls sound two w)
+
+-- an entry whose lower group is given first
+pub merger-ordered : (u v : ℕ) (ground : Ground) (number : ℕ) → u < v → merger u v ground number ≡ record { low = u; high = v; ground = ground; scan = number }
+merger-ordered u v ground number less = rw (min-low u v less, max-high u v less)
 
 pub record-least : {V : Type 0} (K : Kind V) → Lawful K → Record-least K
 record-least K laws n ls sound two p w over =

@@ -1,7 +1,7 @@
 -- What is proved, for every kind of weights that shows the laws: why the figure is least.
 use mathlib.Core.Path.{_≡_}
 use mathlib.Core.Logic.{_⊎_}
-use mathlib.Core.List.{List, [], _∷_, _++_}
+use mathlib.Core.List.{List, [], _∷_}
 use mathlib.Core.Bool.{Bool, true, false}
 use Prim.Native.Nat.{ℕ, _+_, _≤_, _<_}
 use lib.ListN.{length, take}
@@ -11,10 +11,16 @@ use Rattle.cuts.specs.declared.ground.Ground.{Ground}
 use Rattle.cuts.specs.Kinds.{Kind, AtMost, above}
 use Rattle.cuts.specs.Links.{Link, Sound}
 use Rattle.cuts.specs.Divisions.{Division, turned, weight-of, between, Weakest, Figure, only}
-use Rattle.cuts.specs.Groups.{stands, Whole, Joins, degree}
+use Rattle.cuts.specs.Groups.{after, stands, left, Whole, Joins, degree}
 use Rattle.cuts.specs.Tests.{Meets}
 use Rattle.cuts.specs.Scans.{has, key, Capped, Order, Complete}
 use Rattle.cuts.specs.Records.{Point, best-weight, ended, scanned, Work}
+
+-- after mergers a group goes by its lowest unit, and each merger leaves one group fewer
+abbrev pub Groups-named : Type 0
+Groups-named =
+    (n : ℕ) (es : List Entry) → Joins n [] es
+    → ((x : ℕ) → after es x ≤ x) × ((x : ℕ) → after es (after es x) ≡ after es x) × (left n es + length es ≡ n)
 
 module _ {V : Type 0} (K : Kind V) where
   -- a division that parts u and v weighs at least best, or one that does not part them weighs no more than it
@@ -39,6 +45,14 @@ module _ {V : Type 0} (K : Kind V) where
       → (cap : V) → K .amount cap ≤ limit → (v : ℕ) (taken : List ℕ) → Capped K n ls es cap (v ∷ taken)
       → (w : ℕ) → stands n es w ≡ true → has (v ∷ taken) w ≡ false → AtMost K cap (key K n ls es (v ∷ taken) w)
       → (S : ℕ → Bool) → Whole n es S → (S v ≡ S w → ⊥) → AtMost K cap (weight-of K ls S)
+
+  -- the same where each group taken was a heaviest, with no cap
+  abbrev pub Order-safe : Type 0
+  Order-safe =
+      (n : ℕ) (ls : List (Link V)) → Sound K n ls → (es : List Entry) → Joins n [] es
+      → (bound : V) → K .amount bound ≤ limit → (v : ℕ) (taken : List ℕ) → Order K n ls es (v ∷ taken)
+      → (w : ℕ) → stands n es w ≡ true → has (v ∷ taken) w ≡ false → AtMost K bound (key K n ls es (v ∷ taken) w)
+      → (S : ℕ → Bool) → Whole n es S → (S v ≡ S w → ⊥) → AtMost K bound (weight-of K ls S)
 
   -- every scan of the work finds a pair and merges it
   abbrev pub Scan-merges : Type 0
@@ -69,6 +83,10 @@ module _ {V : Type 0} (K : Kind V) where
 
   abbrev pub Record-least : Type 0
   Record-least = (n : ℕ) (ls : List (Link V)) → Sound K n ls → 2 ≤ n → (p : Point) → Work K n ls p → ended K n ls p ≡ true → Answers n ls p
+
+  -- the rules allow some record for every plan: the work can go on until it ends
+  abbrev pub Record-exists : Type 0
+  Record-exists = (n : ℕ) (ls : List (Link V)) → Sound K n ls → 2 ≤ n → (p : Point) × Work K n ls p × (ended K n ls p ≡ true)
 
   -- a weakest division turned over, so that unit 0 is not marked, is the same division: it weighs the same and is weakest
   abbrev pub Turned-weakest : Type 0

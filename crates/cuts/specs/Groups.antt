@@ -1,8 +1,8 @@
 -- Groups of units, as the mergers of a record make them. A group goes by its lowest unit.
 use mathlib.Core.Path.{_≡_}
 use mathlib.Core.List.{List, [], _∷_, _++_}
-use mathlib.Core.Bool.{Bool, true, cond, _&&_}
-use Prim.Native.Nat.{ℕ, _<_}
+use mathlib.Core.Bool.{Bool, true, false, cond, _&&_}
+use Prim.Native.Nat.{ℕ, zero, suc, _+_, _<_}
 use lib.Dec.{eqb, ltb}
 use Rattle.cuts.specs.declared.entry.Entry.{Entry}
 use Rattle.cuts.specs.Kinds.{Kind}
@@ -21,6 +21,18 @@ group es g x = eqb (after es x) g
 -- g is a group of the n units
 abbrev pub stands : ℕ → List Entry → ℕ → Bool
 stands n es g = ltb g n && eqb (after es g) g
+
+-- how many numbers below k pass a test, and how many groups stand
+abbrev pub one : Bool → ℕ
+one true = 1
+one false = 0
+
+abbrev pub count-below : ℕ → (ℕ → Bool) → ℕ
+count-below zero P = 0
+count-below (suc k) P = one (P k) + count-below k P
+
+abbrev pub left : ℕ → List Entry → ℕ
+left n es = count-below n (stands n es)
 
 -- S marks all or none of each group
 abbrev pub Whole : ℕ → List Entry → (ℕ → Bool) → Type 0

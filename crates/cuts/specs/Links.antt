@@ -1,7 +1,6 @@
 -- Links between units, and sums over links in service. The units of a plan are the numbers below n.
-use mathlib.Core.Path.{_≡_}
 use mathlib.Core.List.{List, [], _∷_}
-use mathlib.Core.Bool.{Bool, true, cond, _&&_}
+use mathlib.Core.Bool.{Bool, cond, _&&_}
 use Prim.Native.Nat.{ℕ, _+_, _≤_, _<_}
 use Rattle.weights.specs.Laws.{limit}
 use Rattle.cuts.specs.Kinds.{Kind}

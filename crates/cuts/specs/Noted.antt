@@ -1,7 +1,7 @@
 -- Found pairs without those that earlier ones bring together already. Merging these comes to the same.
 use mathlib.Core.Path.{_≡_}
-use mathlib.Core.List.{List, [], _∷_, _++_}
-use mathlib.Core.Bool.{Bool, cond}
+use mathlib.Core.List.{List, [], _∷_}
+use mathlib.Core.Bool.{cond}
 use Prim.Native.Nat.{ℕ, min, max}
 use lib.Dec.{eqb}
 use Rattle.cuts.specs.Kinds.{Kind}

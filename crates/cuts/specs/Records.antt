@@ -1,7 +1,7 @@
 -- Which records the work allows for a plan.
 use mathlib.Core.Path.{_≡_}
 use mathlib.Core.List.{List, [], _∷_, _++_}
-use mathlib.Core.Bool.{Bool, true, false, not, cond, _||_}
+use mathlib.Core.Bool.{Bool, false, not, cond, _||_}
 use Prim.Native.Nat.{ℕ, _+_, min, max, _<_}
 use lib.Dec.{eqb, leb}
 use lib.ListN.{length}

@@ -1,7 +1,7 @@
 -- Worked plans: small plans with their figure, marks and record, and what it is for one to be right.
 use mathlib.Core.Path.{_≡_}
 use mathlib.Core.List.{List, [], _∷_}
-use mathlib.Core.Bool.{Bool, true, false}
+use mathlib.Core.Bool.{true, false}
 use Prim.Native.Nat.{ℕ}
 use Rattle.weights.specs.Kinds.{plain-plus, plain-le, plain-size, ranked-plus, ranked-le, ranked-size}
 use Rattle.cuts.specs.declared.entry.Entry.{Entry}

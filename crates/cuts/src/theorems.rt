@@ -1,6 +1,6 @@
 // Why the figure is least: each function's contract is a theorem, for every kind of weights that shows the laws.
 ghost use Rattle.cuts.specs.Kinds.{kind};
-ghost use Rattle.cuts.specs.Claims.{Grounds-safe, Scan-safe, Scan-merges, Record-least, Turned-weakest, Alike-same};
+ghost use Rattle.cuts.specs.Claims.{Grounds-safe, Scan-safe, Order-safe, Groups-named, Scan-merges, Record-least, Record-exists, Turned-weakest, Alike-same};
 ghost use Rattle.cuts.specs.Outcomes.{Outcome-promised};
 ghost use Rattle.cuts.specs.Noted.{Noted-same};
 ghost use Rattle.cuts.specs.Edits.{Change-keeps, Edits-keep};
@@ -13,9 +13,24 @@ pub fn grounds_are_safe<W: Weight>() -> u8
     0
 }
 
-// Ground 5: no division that parts a pair found by a scan weighs less than best at the scan's start.
+// Ground 5: no division that parts a pair found by a scan weighs less than best at the scan's start. Keys need be
+// compared only up to a cap.
 pub fn scan_is_safe<W: Weight>() -> u8
     ensures { λ _. ⌜ Scan-safe (kind (W·Weight .zero) (W·Weight .plus) (W·Weight .le) (W·Weight .size)) ⌝ }
+{
+    0
+}
+
+// Ground 5 where each group taken was a heaviest, with no cap.
+pub fn order_is_safe<W: Weight>() -> u8
+    ensures { λ _. ⌜ Order-safe (kind (W·Weight .zero) (W·Weight .plus) (W·Weight .le) (W·Weight .size)) ⌝ }
+{
+    0
+}
+
+// After mergers a group goes by its lowest unit, and each merger leaves one group fewer.
+pub fn groups_are_named() -> u8
+    ensures { λ _. ⌜ Groups-named ⌝ }
 {
     0
 }
@@ -31,6 +46,13 @@ pub fn scan_merges<W: Weight>() -> u8
 // figure is the least among the degrees of the groups so far and the weights of divisions that keep the groups whole.
 pub fn record_is_least<W: Weight>() -> u8
     ensures { λ _. ⌜ Record-least (kind (W·Weight .zero) (W·Weight .plus) (W·Weight .le) (W·Weight .size)) ⌝ }
+{
+    0
+}
+
+// The rules allow some record for every plan of two or more units.
+pub fn record_exists<W: Weight>() -> u8
+    ensures { λ _. ⌜ Record-exists (kind (W·Weight .zero) (W·Weight .plus) (W·Weight .le) (W·Weight .size)) ⌝ }
 {
     0
 }
