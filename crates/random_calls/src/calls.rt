@@ -17,8 +17,8 @@ use filings::filing::Filing;
 use queues::list::ListQueue;
 use queues::list::ListQueuePriorityQueue;
 use queues::list::Slot;
-use queues::queue::PriorityQueue;
 use queues::queue::GROUPS;
+use queues::queue::PriorityQueue;
 use refusals::Refusal;
 use std::alloc::AllocError;
 use std::alloc::Global;
@@ -134,7 +134,14 @@ fn answered<W: Weight>(outcome: Result<Answer<W>, Refusal>, marks: &[u8], table:
 }
 
 // The weakest division, or that with one link out of service, in lent memory.
-fn ask<W: Weight, Q: PriorityQueue<Weight = W>>(filing: &mut Filing<W>, without: Option<usize>, queue: &mut Q, marks: &mut [u8], entries: &mut [Entry], table: &mut [W]) -> Result<Answer<W>, Refusal>
+fn ask<W: Weight, Q: PriorityQueue<Weight = W>>(
+    filing: &mut Filing<W>,
+    without: Option<usize>,
+    queue: &mut Q,
+    marks: &mut [u8],
+    entries: &mut [Entry],
+    table: &mut [W],
+) -> Result<Answer<W>, Refusal>
     requires plan { ⌜ Sound W·Weight (now filing .plan) ⌝ }
     requires queue { ⌜ Q·PriorityQueue .sound (now queue) ⌝ }
     ensures { λ _. ⌜ Sound W·Weight (now (filing .exit) .plan) ⌝ }
@@ -146,7 +153,12 @@ fn ask<W: Weight, Q: PriorityQueue<Weight = W>>(filing: &mut Filing<W>, without:
 }
 
 // Asks in memory of the wanted sizes that is made for it.
-fn worked_out<W: Weight>(heap: Global, filing: &mut Filing<W>, without: Option<usize>, lent: Lent) -> Result<Outcome, AnyError>
+fn worked_out<W: Weight>(
+    heap: Global,
+    filing: &mut Filing<W>,
+    without: Option<usize>,
+    lent: Lent,
+) -> Result<Outcome, AnyError>
     requires { ⌜ Sound W·Weight (now filing .plan) ⌝ }
     ensures { λ _. ⌜ Sound W·Weight (now (filing .exit) .plan) ⌝ }
 {
@@ -156,7 +168,14 @@ fn worked_out<W: Weight>(heap: Global, filing: &mut Filing<W>, without: Option<u
     let mut table = filled(heap, weight, lent.weights)?;
     let mut slots = filled(heap, Slot::<W>::empty(), GROUPS)?;
     let mut queue = ListQueue::over(slots.as_mut_slice());
-    let outcome = ask(filing, without, &mut queue, marks.as_mut_slice(), entries.as_mut_slice(), table.as_mut_slice());
+    let outcome = ask(
+        filing,
+        without,
+        &mut queue,
+        marks.as_mut_slice(),
+        entries.as_mut_slice(),
+        table.as_mut_slice(),
+    );
     let reply = answered(outcome, marks.as_slice(), table.as_slice());
     Ok(Outcome { reply, marks })
 }
@@ -182,7 +201,11 @@ fn reweigh<W: Weight>(filing: &mut Filing<W>, link: usize, parts: Parts) -> Repl
 }
 
 // Makes a call on a filing.
-pub fn perform<W: Weight>(heap: Global, filing: &mut Filing<W>, call: &Call) -> Result<Outcome, AnyError>
+pub fn perform<W: Weight>(
+    heap: Global,
+    filing: &mut Filing<W>,
+    call: &Call,
+) -> Result<Outcome, AnyError>
     requires { ⌜ Sound W·Weight (now filing .plan) ⌝ }
     ensures { λ _. ⌜ Sound W·Weight (now (filing .exit) .plan) ⌝ }
 {

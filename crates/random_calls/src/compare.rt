@@ -1,14 +1,14 @@
 // What the model says to a call, and whether a filing's plan is the model's.
 ghost use Prim.Native.Nat.{ℕ, _≤_};
 ghost use Rattle.plans.specs.Sound.{Sound};
-use crate::calls::parts_of;
 use crate::calls::Call;
 use crate::calls::Outcome;
-use crate::model::amount;
+use crate::calls::parts_of;
 use crate::model::Model;
 use crate::model::Parts;
 use crate::model::Reply;
 use crate::model::Wire;
+use crate::model::amount;
 use filings::filing::Filing;
 use plans::plan::Link;
 use plans::plan::Unit;
@@ -22,7 +22,12 @@ fn is_over(parts: Parts) -> bool {
 }
 
 // Makes a call on the model and gives its reply; the library's outcome tells what the rules leave open.
-pub fn expect(heap: Global, model: &mut Model, call: &Call, seen: &Outcome) -> Result<Reply, AnyError> {
+pub fn expect(
+    heap: Global,
+    model: &mut Model,
+    call: &Call,
+    seen: &Outcome,
+) -> Result<Reply, AnyError> {
     let marks = seen.marks.as_slice();
     match call {
         Call::Enter(text) => model.enter(heap, text.as_slice()),
@@ -51,7 +56,10 @@ fn same_codes(units: &[Unit], codes: &[Vec<u8>]) -> bool {
 fn same_links<W: Weight>(links: &[Link<W>], wires: &[Wire]) -> bool {
     for (link, wire) in links.iter().zip(wires) {
         let ends = (link.first as usize, link.second as usize);
-        if ends != wire.ends || link.in_service != wire.serves || parts_of(link.weight) != wire.parts {
+        if ends != wire.ends
+            || link.in_service != wire.serves
+            || parts_of(link.weight) != wire.parts
+        {
             return false;
         }
     }
@@ -64,5 +72,7 @@ pub fn is_same<W: Weight>(filing: &Filing<W>, model: &Model) -> bool
 {
     let plan = filing.plan();
     let counts = plan.unit_count() == model.codes.len() && plan.link_count() == model.wires.len();
-    counts && same_codes(plan.units(), model.codes.as_slice()) && same_links(plan.links(), model.wires.as_slice())
+    counts
+        && same_codes(plan.units(), model.codes.as_slice())
+        && same_links(plan.links(), model.wires.as_slice())
 }

@@ -185,7 +185,12 @@ impl Model {
             return Ok(Reply::Refused(12));
         }
         let serves = true;
-        self.wires.push(Wire { ends, serves, parts })?;
+        self.wires
+            .push(Wire {
+                ends,
+                serves,
+                parts,
+            })?;
         self.settle(ends, NOTHING, parts);
         Ok(Reply::Number(number))
     }

@@ -16,7 +16,13 @@ impl Model {
     }
 
     // An accepted weakest keeps its marks; while some are kept, it answers those.
-    pub fn weakest(&mut self, heap: Global, lent: Lent, reply: Reply, marks: &[u8]) -> Result<Reply, AnyError> {
+    pub fn weakest(
+        &mut self,
+        heap: Global,
+        lent: Lent,
+        reply: Reply,
+        marks: &[u8],
+    ) -> Result<Reply, AnyError> {
         let units = self.codes.len();
         if units < 2 {
             return Ok(Reply::Refused(15));
@@ -24,7 +30,13 @@ impl Model {
         if self.is_short(lent) || marks.len() < units {
             return Ok(Reply::Refused(17));
         }
-        let expected = judged(self.wires.as_slice(), units, self.kept.is_some(), reply, marks);
+        let expected = judged(
+            self.wires.as_slice(),
+            units,
+            self.kept.is_some(),
+            reply,
+            marks,
+        );
         if let Some(sides) = &self.kept {
             if sides.as_slice() != &marks[0..units] {
                 return Ok(Reply::WrongMarks);
@@ -35,7 +47,14 @@ impl Model {
     }
 
     // The same with one link out of service; kept marks are neither answered nor touched.
-    pub fn trial(&self, heap: Global, link: usize, lent: Lent, reply: Reply, marks: &[u8]) -> Result<Reply, AnyError> {
+    pub fn trial(
+        &self,
+        heap: Global,
+        link: usize,
+        lent: Lent,
+        reply: Reply,
+        marks: &[u8],
+    ) -> Result<Reply, AnyError> {
         if link >= self.wires.len() {
             return Ok(Reply::Refused(13));
         }

@@ -1,10 +1,10 @@
 // Divisions of a plan by hand: what each cuts, and the lightest by trying all of them.
 use crate::model::Answered;
+use crate::model::NOTHING;
 use crate::model::Parts;
 use crate::model::Reply;
-use crate::model::Wire;
-use crate::model::NOTHING;
 use crate::model::UNTOUCHED;
+use crate::model::Wire;
 
 // Up to so many units every division is tried.
 const FEW: usize = 10;
@@ -111,7 +111,13 @@ pub fn judged(wires: &[Wire], units: usize, kept: bool, reply: Reply, marks: &[u
     Reply::Answer(Answered {
         figure,
         kept,
-        mergers: if kept { 0 } else if fewer { mergers } else { all },
+        mergers: if kept {
+            0
+        } else if fewer {
+            mergers
+        } else {
+            all
+        },
         scans: if kept { 0 } else { scans },
         cleared: if kept { 0 } else { units.saturating_mul(units) },
     })
