@@ -38,7 +38,7 @@ pub struct Kind {
     pub ranked: bool,
     // whether units and links are to come up to their most
     pub filling: bool,
-    // whether the run begins with two halves of the units, each unit of one linked to each of the other
+    // whether the run begins with a plan that takes scans
     pub woven: bool,
     // from how many codes those of the units are taken, so that there are no more units than that
     pub codes: usize,
@@ -198,24 +198,43 @@ fn mark(dice: &mut Dice, model: &Model) -> Call {
     Call::Mark(number(dice, model.wires.len()), mark)
 }
 
-// The calls that a woven run begins with: units, links, an answer about them, and two trials. With every weight 1 and
-// no triangle no pair meets a test, so that there are scans.
+// The ends of a link of a woven plan. A block is two halves, each unit of one linked to each of the other; after the
+// links of one block or two come those between the two.
+fn woven(place: usize, half: usize) -> (usize, usize) {
+    let block = half.saturating_mul(2);
+    let square = half.saturating_mul(half);
+    if half == 0 || square == 0 {
+        return (0, 0);
+    }
+    let at = place % square;
+    let one = at / half;
+    let other = half.saturating_add(at % half);
+    match place / square {
+        0 => (one, other),
+        1 => (block.saturating_add(one), block.saturating_add(other)),
+        _ => (at, block.saturating_add(at)),
+    }
+}
+
+// The calls that a woven run begins with: units, links, an answer about them, and two trials. With every weight 1, no
+// triangle and three links or more to a unit no pair meets a test, so that there are scans. Twelve units are two blocks
+// of six with two links between them, which are the weakest division.
 fn weave(heap: Global, turn: usize, units: usize) -> Result<Option<Call>, AnyError> {
-    let half = units / 2;
-    if turn < units || half == 0 {
+    let half = if units == 12 { 3 } else { units / 2 };
+    let links = if units == 12 { 20 } else { half.saturating_mul(half) };
+    if turn < units {
         return Ok(Some(Call::Enter(code(heap, turn)?)));
     }
     let place = turn - units;
-    let links = half.saturating_mul(half);
+    if place < links {
+        let (first, second) = woven(place, half);
+        return Ok(Some(Call::Link(first, second, (1, 0))));
+    }
     let lent = Lent {
         marks: units,
         entries: units,
         weights: units.saturating_mul(units),
     };
-    if place < links {
-        let other = half.saturating_add(place % half);
-        return Ok(Some(Call::Link(place / half, other, (1, 0))));
-    }
     Ok(match place - links {
         0 => Some(Call::Weakest(lent)),
         1 => Some(Call::Trial(0, lent)),

@@ -30,7 +30,7 @@ mod compare;
 mod draws;
 mod model;
 
-// For each weight kind eight short runs on at most 3 to 10 units, three woven ones on 6, 8 and 10 units, and a long one
+// For each weight kind eight short runs on at most 3 to 10 units, three woven ones on 6, 8 and 12 units, and a long one
 // that fills the plan: 11 × 300 + 1700 calls.
 const SHORT: usize = 300;
 const LONG: usize = 1700;
@@ -86,7 +86,7 @@ fn runs<W: Weight>(rt: &LibcRuntime, ranked: bool, tally: &mut Tally) -> Result<
         run::<W>(rt, &mut dice, Kind { codes, ..few }, SHORT, tally)?;
     }
     let woven = true;
-    for codes in [6, 8, 10] {
+    for codes in [6, 8, 12] {
         run::<W>(rt, &mut dice, Kind { codes, woven, ..few }, SHORT, tally)?;
     }
     let filling = true;
