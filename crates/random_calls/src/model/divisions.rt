@@ -7,7 +7,7 @@ use crate::model::UNTOUCHED;
 use crate::model::Wire;
 
 // Up to so many units every division is tried.
-const FEW: usize = 10;
+const FEW: usize = 12;
 
 // The first parts decide, then the second.
 pub fn heavier(a: Parts, b: Parts) -> bool {
