@@ -19,7 +19,9 @@ impl Dice {
 
     // A number from 0 up to, and without, a bound; 0 where the bound is 0.
     pub fn below(&mut self, bound: usize) -> usize {
-        self.state = self.state.wrapping_mul(6364136223846793005).wrapping_add(1442695040888963407);
+        self.state = self.state
+            .wrapping_mul(6364136223846793005)
+            .wrapping_add(1442695040888963407);
         if bound == 0 {
             return 0;
         }
@@ -165,9 +167,18 @@ fn lent(dice: &mut Dice, units: usize) -> Lent {
         weights: square,
     };
     match dice.below(12) {
-        0 => Lent { marks: units.saturating_sub(1), ..exact },
-        1 => Lent { entries: units.saturating_sub(1), ..exact },
-        2 => Lent { weights: square.saturating_sub(1), ..exact },
+        0 => Lent {
+            marks: units.saturating_sub(1),
+            ..exact
+        },
+        1 => Lent {
+            entries: units.saturating_sub(1),
+            ..exact
+        },
+        2 => Lent {
+            weights: square.saturating_sub(1),
+            ..exact
+        },
         3 | 4 | 5 => exact,
         _ => Lent {
             marks: units.saturating_add(2),
@@ -179,8 +190,16 @@ fn lent(dice: &mut Dice, units: usize) -> Lent {
 
 fn link(dice: &mut Dice, kind: Kind, model: &Model) -> Call {
     let first = number(dice, model.codes.len());
-    let second = if dice.one_in(8) { first } else { number(dice, model.codes.len()) };
-    Call::Link(first, second, parts(dice, kind, model.total_but(usize::MAX)))
+    let second = if dice.one_in(8) {
+        first
+    } else {
+        number(dice, model.codes.len())
+    };
+    Call::Link(
+        first,
+        second,
+        parts(dice, kind, model.total_but(usize::MAX)),
+    )
 }
 
 fn reweigh(dice: &mut Dice, kind: Kind, model: &Model) -> Call {
@@ -221,7 +240,11 @@ fn woven(place: usize, half: usize) -> (usize, usize) {
 // of six with two links between them, which are the weakest division.
 fn weave(heap: Global, turn: usize, units: usize) -> Result<Option<Call>, AnyError> {
     let half = if units == 12 { 3 } else { units / 2 };
-    let links = if units == 12 { 20 } else { half.saturating_mul(half) };
+    let links = if units == 12 {
+        20
+    } else {
+        half.saturating_mul(half)
+    };
     if turn < units {
         return Ok(Some(Call::Enter(code(heap, turn)?)));
     }
@@ -235,17 +258,25 @@ fn weave(heap: Global, turn: usize, units: usize) -> Result<Option<Call>, AnyErr
         entries: units,
         weights: units.saturating_mul(units),
     };
-    Ok(match place - links {
-        0 => Some(Call::Weakest(lent)),
-        1 => Some(Call::Trial(0, lent)),
-        2 => Some(Call::Trial(5, lent)),
-        _ => None,
-    })
+    Ok(
+        match place - links {
+            0 => Some(Call::Weakest(lent)),
+            1 => Some(Call::Trial(0, lent)),
+            2 => Some(Call::Trial(5, lent)),
+            _ => None,
+        },
+    )
 }
 
 // The call at a turn of a run. In a run that fills the plan most calls add a unit or a link; in any other one in three
 // asks for the weakest division, so that most edits are followed by one soon.
-pub fn draw(heap: Global, dice: &mut Dice, kind: Kind, model: &Model, turn: usize) -> Result<Call, AnyError> {
+pub fn draw(
+    heap: Global,
+    dice: &mut Dice,
+    kind: Kind,
+    model: &Model,
+    turn: usize,
+) -> Result<Call, AnyError> {
     if kind.woven {
         if let Some(call) = weave(heap, turn, kind.codes)? {
             return Ok(call);
@@ -253,18 +284,24 @@ pub fn draw(heap: Global, dice: &mut Dice, kind: Kind, model: &Model, turn: usiz
     }
     let units = model.codes.len();
     let links = model.wires.len();
-    let choice = if kind.filling { dice.below(80) } else { dice.below(26) };
-    Ok(match choice {
-        0 | 1 => Call::Enter(text(heap, dice, kind)?),
-        2 => Call::Recode(number(dice, units), text(heap, dice, kind)?),
-        3 => Call::Strike(number(dice, links)),
-        4 | 5 => reweigh(dice, kind, model),
-        6 | 7 => mark(dice, model),
-        8 | 9 => Call::Weigh(marks(heap, dice, units)?),
-        10 | 11 | 12 => Call::Weakest(lent(dice, units)),
-        13 => Call::Trial(number(dice, links), lent(dice, units)),
-        20..=31 if kind.filling => Call::Enter(text(heap, dice, kind)?),
-        20..=25 => Call::Weakest(lent(dice, units)),
-        _ => link(dice, kind, model),
-    })
+    let choice = if kind.filling {
+        dice.below(80)
+    } else {
+        dice.below(26)
+    };
+    Ok(
+        match choice {
+            0 | 1 => Call::Enter(text(heap, dice, kind)?),
+            2 => Call::Recode(number(dice, units), text(heap, dice, kind)?),
+            3 => Call::Strike(number(dice, links)),
+            4 | 5 => reweigh(dice, kind, model),
+            6 | 7 => mark(dice, model),
+            8 | 9 => Call::Weigh(marks(heap, dice, units)?),
+            10 | 11 | 12 => Call::Weakest(lent(dice, units)),
+            13 => Call::Trial(number(dice, links), lent(dice, units)),
+            20..=31 if kind.filling => Call::Enter(text(heap, dice, kind)?),
+            20..=25 => Call::Weakest(lent(dice, units)),
+            _ => link(dice, kind, model),
+        },
+    )
 }

@@ -2,22 +2,22 @@
 // model that is written from docs/RULES.md alone.
 ghost use Prim.Native.Nat.{ℕ, _≤_};
 ghost use Rattle.plans.specs.Sound.{Sound};
-use crate::calls::filled;
-use crate::calls::perform;
 use crate::calls::Call;
 use crate::calls::CallDebug;
+use crate::calls::filled;
+use crate::calls::perform;
 use crate::compare::expect;
 use crate::compare::is_same;
-use crate::draws::draw;
 use crate::draws::Dice;
 use crate::draws::Kind;
+use crate::draws::draw;
 use crate::model::Model;
 use crate::model::Reply;
 use crate::model::ReplyDebug;
 use crate::model::ReplyPartialEq;
 use filings::filing::Filing;
-use plans::plan::Link;
 use plans::plan::LINKS;
+use plans::plan::Link;
 use std::error::AnyError;
 use weights::plain::Plain;
 use weights::plain::PlainWeight;
@@ -33,6 +33,7 @@ mod model;
 // For each weight kind eight short runs on at most 3 to 10 units, three woven ones on 6, 8 and 12 units, and a long one
 // that fills the plan: 11 × 300 + 1700 calls.
 const SHORT: usize = 300;
+
 const LONG: usize = 1700;
 
 #[derive(Drop)]
@@ -42,7 +43,13 @@ struct Tally {
 }
 
 // Makes one call on the filing and on the model, and names the call if they differ.
-fn step<W: Weight>(rt: &LibcRuntime, filing: &mut Filing<W>, model: &mut Model, call: &Call, tally: &mut Tally) -> Result<(), AnyError>
+fn step<W: Weight>(
+    rt: &LibcRuntime,
+    filing: &mut Filing<W>,
+    model: &mut Model,
+    call: &Call,
+    tally: &mut Tally,
+) -> Result<(), AnyError>
     requires { ⌜ Sound W·Weight (now filing .plan) ⌝ }
     ensures { λ _. ⌜ Sound W·Weight (now (filing .exit) .plan) ⌝ }
 {
@@ -56,13 +63,26 @@ fn step<W: Weight>(rt: &LibcRuntime, filing: &mut Filing<W>, model: &mut Model, 
     }
     tally.deviations = tally.deviations.saturating_add(1);
     let number = tally.calls;
-    let plan = if same { "the same plan" } else { "another plan" };
-    println!(rt, "call {number}, {call:?}: {reply:?} where {expected:?} is right, and {plan}")?;
+    let plan = if same {
+        "the same plan"
+    } else {
+        "another plan"
+    };
+    println!(
+        rt,
+        "call {number}, {call:?}: {reply:?} where {expected:?} is right, and {plan}"
+    )?;
     Ok(())
 }
 
 // A run of calls, from a plan with no units.
-fn run<W: Weight>(rt: &LibcRuntime, dice: &mut Dice, kind: Kind, calls: usize, tally: &mut Tally) -> Result<(), AnyError> {
+fn run<W: Weight>(
+    rt: &LibcRuntime,
+    dice: &mut Dice,
+    kind: Kind,
+    calls: usize,
+    tally: &mut Tally,
+) -> Result<(), AnyError> {
     let mut links = filled(rt.alloc(), Link::<W>::blank(), LINKS)?;
     let mut filing = Filing::open(links.as_mut_slice());
     let mut model = Model::new(rt.alloc());
@@ -87,15 +107,38 @@ fn runs<W: Weight>(rt: &LibcRuntime, ranked: bool, tally: &mut Tally) -> Result<
     }
     let woven = true;
     for codes in [6, 8, 12] {
-        run::<W>(rt, &mut dice, Kind { codes, woven, ..few }, SHORT, tally)?;
+        run::<W>(
+            rt,
+            &mut dice,
+            Kind {
+                codes,
+                woven,
+                ..few
+            },
+            SHORT,
+            tally,
+        )?;
     }
     let filling = true;
     let codes = 200;
-    run::<W>(rt, &mut dice, Kind { codes, filling, ..few }, LONG, tally)
+    run::<W>(
+        rt,
+        &mut dice,
+        Kind {
+            codes,
+            filling,
+            ..few
+        },
+        LONG,
+        tally,
+    )
 }
 
 fn main(rt: LibcRuntime) -> Result<(), AnyError> {
-    let mut tally = Tally { calls: 0, deviations: 0 };
+    let mut tally = Tally {
+        calls: 0,
+        deviations: 0,
+    };
     runs::<Plain>(&rt, false, &mut tally)?;
     runs::<Ranked>(&rt, true, &mut tally)?;
     let calls = tally.calls;
