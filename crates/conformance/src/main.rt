@@ -1,4 +1,6 @@
 // Runs the library over every sheet of data/ and compares what it would print with what is expected.
+#![tactic(auto)]
+
 use reports::report::report;
 use std::fs;
 

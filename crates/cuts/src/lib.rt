@@ -1,4 +1,6 @@
 // Grounds of mergers, entries of a record, and the theorems on divisions that make the figure least.
+#![tactic(auto)]
+
 pub mod entry;
 pub mod ground;
 pub mod instances;

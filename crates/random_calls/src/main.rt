@@ -1,5 +1,7 @@
 // Makes pseudo-random calls on filings of both weight kinds, and compares each reply, and the plan after it, with a
 // model that is written from docs/RULES.md alone.
+#![tactic(auto)]
+
 ghost use Rattle.std.specs.Prelude.{ℕ, ◌≤◌};
 ghost use Rattle.filings.specs.Filed.{Filed};
 

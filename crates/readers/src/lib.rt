@@ -1,4 +1,6 @@
 // Reading a sheet: the whole plan is replaced, or the first fault is told and nothing changes.
+#![tactic(auto)]
+
 pub mod codes;
 pub mod cursor;
 pub mod head;

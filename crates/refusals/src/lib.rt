@@ -1,4 +1,6 @@
 // Why a call was refused, with the number by which users know each reason.
+#![tactic(auto)]
+
 ghost use Rattle.std.specs.Prelude.{◌≡◌};
 ghost use Rattle.refusals.specs.Numbers.{number_of};
 

@@ -1,2 +1,4 @@
 // What the program prints of a sheet.
+#![tactic(auto)]
+
 pub mod report;

@@ -1,5 +1,7 @@
 // Writes pseudo-random plans of both weight kinds in both issues, reads them back and writes them again. Bytes and
 // refusals are compared with an encoder that is written separately from the byte format.
+#![tactic(auto)]
+
 ghost use Rattle.plans.specs.Sound.{Sound};
 
 use crate::drafts::{Dice, Draft, draw};

@@ -1,3 +1,5 @@
 // The weakest division of a plan, worked out.
+#![tactic(auto)]
+
 pub mod answer;
 pub mod solve;

@@ -1,4 +1,6 @@
 // Reads a sheet on standard input and prints its weakest division, or the number of a refusal.
+#![tactic(auto)]
+
 use reports::report::report;
 use std::io::Read;
 

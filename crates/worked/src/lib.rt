@@ -1,4 +1,6 @@
 // The plans and calls that `docs/RULES.md` works out, with the results that the rules give, as tests.
+#![tactic(auto)]
+
 #[cfg(test)]
 mod bench;
 #[cfg(test)]
