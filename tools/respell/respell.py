@@ -11,7 +11,6 @@ import sys
 
 DECL = re.compile(
     r"^(\s*)((?:(?:abbrev|unfoldable|pub|record|data)\s+)*)([^\s:{}()\[\]→λ,;.|]+)(\s.*?)?\s?:\s", re.M)
-CONSTRUCTOR = re.compile(r"^\s*\|?\s*(?:pub\s+)?([^\s:{}()\[\]→λ,;.|]+)\s*:", re.M)
 # Names that fall together with another one when they are respelled, and what they are called instead.
 CHOSEN = {
     "anyLong": "has_long_code", "code-size": "code_size_cases", "codeSize": "size_of_code",
@@ -42,10 +41,13 @@ def generated(text_of):
     return names
 
 
-def is_type(text, name):
-    """Whether the signature of the name ends in a type of types."""
-    m = re.search(r"^\s*(?:abbrev |unfoldable |pub |record |data )*" + re.escape(name) + r"\s[^=]*?Type", text, re.M)
-    return m is not None
+def from_libraries(text):
+    """Names that a file takes from the libraries of the kit."""
+    names = set()
+    for where, block in re.findall(r"\buse ([\w.]+)\.\{([^}]*)\}", text):
+        if where.startswith("Rattle.std.") or not where.startswith("Rattle."):
+            names |= {n.strip().split(" as ")[0] for n in block.split(",")}
+    return names
 
 
 def snake(name):
@@ -104,10 +106,10 @@ def main():
         return
     token = re.compile(r"(?<![\w'\-→◌ℕ])[A-Za-z][A-Za-z0-9_'\-]*(?![\w'→◌])")
 
-    def change(code):
+    def change(code, foreign=frozenset()):
         def one(m):
             name = m.group(0)
-            if name not in fixed:
+            if name not in fixed or name in foreign:
                 return name
             before = code[:m.start()]
             if before.endswith(".") and not before.endswith("..") and name not in fields:
@@ -119,6 +121,7 @@ def main():
             glob.glob("crates/*/must-fail/*.edit")):
         text = open(path, encoding="utf-8").read()
         comment = "--" if path.endswith(".antt") else "//"
+        foreign = from_libraries(text)
         lines = []
         for line in text.split("\n"):
             at = -1
@@ -128,8 +131,8 @@ def main():
             else:
                 at = line.find(comment)
             code, rest = (line, "") if at < 0 else (line[:at], line[at:])
-            rest = re.sub(r"`([^`]*)`", lambda m: "`" + change(m.group(1)) + "`", rest)
-            lines.append(change(code) + rest)
+            rest = re.sub(r"`([^`]*)`", lambda m: "`" + change(m.group(1), foreign) + "`", rest)
+            lines.append(change(code, foreign) + rest)
         new = "\n".join(lines)
         if new != text:
             open(path, "w", encoding="utf-8").write(new)

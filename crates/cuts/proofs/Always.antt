@@ -1,7 +1,7 @@
 -- The work never stands still: some unit is lightest, a pair meets a test or none does, groups can be taken heaviest first.
 use Rattle.std.proofs.Common.{◌≡◌, ℕ, zero, suc, ◌+◌, ◌<◌, ◌≤◌, Bool, true, false, not, ◌&&◌, ◌||◌, ◌⊎◌, List, [], ◌∷◌, length, sym, refl, ap, ◌∙◌, inl, inr, ⊎_elim, arith}
 use Rattle.std.proofs.lemmas.Bool.Decides.{nat_tests}
-use Rattle.std.proofs.lemmas.Bool.{cases_Bool, cases_lt, and_parts, or_parts, or_cases, not_true}
+use Rattle.std.proofs.lemmas.Bool.{cases_Bool, cases_lt, and_parts, or_parts, or_cases, not-true}
 use Rattle.weights.specs.Laws.{limit}
 use Rattle.cuts.specs.declared.entry.Entry.{Entry}
 use Rattle.cuts.specs.declared.ground.Ground.{Ground}
@@ -186,7 +186,7 @@ module _ {V : Type 0} (K : Kind V) (laws : Lawful K) (n : ℕ) (ls : List (Link 
       let q = and_parts (stands n es m) (not (has taken m)) pm in
       let c = count_but n (waits es taken) m lm pm in
       let e = count_same n (waits es (m ∷ taken)) (but (waits es taken) m) (λ x l. grind (arith, nat_tests)) in
-      order_from es fuel (m ∷ taken) (q.0, not_true (has taken m) q.1, (λ w st out. most w (stands_less n es w st) (rw (st, out))), order) (omega arith))
+      order_from es fuel (m ∷ taken) (q.0, not-true (has taken m) q.1, (λ w st out. most w (stands_less n es w st) (rw (st, out))), order) (omega arith))
       (λ none. (taken, order, λ w st. ⊎_elim (λ t. t) (λ (f : has taken w ≡ false). absurd (let k = none w (stands_less n es w st) in grind arith)) (cases_Bool (has taken w))))
       (heaviest K laws (key K n ls es taken) (key_fits es taken) n (waits es taken))
 

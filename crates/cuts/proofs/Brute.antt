@@ -1,7 +1,7 @@
 -- The figure of a small plan, by trying every division.
 use Rattle.std.proofs.Common.{◌≡◌, ℕ, zero, suc, ◌+◌, ◌<◌, Bool, true, false, cond, not, ◌&&◌, ◌||◌, eqb, ltb, leb, List, [], ◌∷◌, sym, ap, ◌∙◌, ⊎_elim, arith}
 use Rattle.std.proofs.lemmas.Bool.Decides.{nat_tests}
-use Rattle.std.proofs.lemmas.Bool.{cases_eq, cases_Bool, and_parts, or_left, or_right, or_cases, not_true, leb-true, ltb-true}
+use Rattle.std.proofs.lemmas.Bool.{cases_eq, cases_Bool, and_parts, or_left, or_right, or_cases, not-true, leb-true, ltb-true}
 use Rattle.weights.specs.Laws.{limit}
 use Rattle.cuts.specs.Kinds.{Kind, Lawful, AtMost}
 use Rattle.cuts.specs.Links.{Link, load, Ends, Sound}
@@ -98,7 +98,7 @@ unfolding divides
 divides_division n S h =
     let r = and_parts (any_below n S) (any_below n (λ x. not (S x))) h in
     let (b, l, e) = any_true n (λ x. not (S x)) r.1 in
-    record { some = any_true n S r.0; not_all = (b, l, not_true (S b) e) }
+    record { some = any_true n S r.0; not_all = (b, l, not-true (S b) e) }
 
 division_divides : (n : ℕ) (S : ℕ → Bool) → Division n S → divides n S ≡ true
 unfolding divides

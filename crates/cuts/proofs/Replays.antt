@@ -1,7 +1,7 @@
 -- A record replayed: each step tested by computation, so that a point reached is one that the work allows.
 use Rattle.std.proofs.Common.{◌≡◌, ℕ, ◌<◌, Bool, true, false, not, ◌&&◌, ◌||◌, eqb, ltb, leb, List, [], ◌∷◌, refl, inl, inr, ⊎_elim, arith}
 use Rattle.std.proofs.lemmas.Bool.Decides.{nat_tests}
-use Rattle.std.proofs.lemmas.Bool.{and_parts, and_cases, or_cases, or_parts, not_true, ltb-true}
+use Rattle.std.proofs.lemmas.Bool.{and_parts, and_cases, or_cases, or_parts, not-true, ltb-true}
 use Rattle.cuts.specs.declared.entry.Entry.{Entry}
 use Rattle.cuts.specs.declared.ground.Ground.{Ground}
 use Rattle.cuts.specs.declared.ground.Ground.TheVariants.{Heavy, Unbalanced, Triangle, Neighbourhood, Scan}
@@ -80,7 +80,7 @@ module _ {V : Type 0} (K : Kind V) (n : ℕ) (ls : List (Link V)) (es : List Ent
   free_not : (k u v : ℕ) (ground : Ground) → free k u v ground ≡ true → ground_number ground < k → Meets K n ls es best u v ground → ⊥
   unfolding free
   free_not k u v ground h l m =
-      ⊎_elim (λ (t : leb k (ground_number ground) ≡ true). grind (arith, nat_tests)) (λ t. meets_not u v ground (not_true (meets u v ground) t) m) (or_cases (leb k (ground_number ground)) (not (meets u v ground)) h)
+      ⊎_elim (λ (t : leb k (ground_number ground) ≡ true). grind (arith, nat_tests)) (λ t. meets_not u v ground (not-true (meets u v ground) t) m) (or_cases (leb k (ground_number ground)) (not (meets u v ground)) h)
 
   -- the pair meets no test of a ground below k
   unfoldable pub none_under : ℕ → ℕ → ℕ → Bool
@@ -110,7 +110,7 @@ module _ {V : Type 0} (K : Kind V) (n : ℕ) (ls : List (Link V)) (es : List Ent
   none_of_sound p h a b is let_through ground m =
       let here = all_true n _ (all_true n _ h a (stands_less n es a is.0)) b (stands_less n es b is.1) in
       let yes = pair_from a b is in
-      ⊎_elim (λ (e : not (pair a b && p a b) ≡ true). let k = not_true (pair a b && p a b) e in grind arith)
+      ⊎_elim (λ (e : not (pair a b && p a b) ≡ true). let k = not-true (pair a b && p a b) e in grind arith)
       (λ (e : none_under 5 a b ≡ true). each ground e m)
       (or_cases (not (pair a b && p a b)) (none_under 5 a b) here)
     where
@@ -153,10 +153,10 @@ module _ {V : Type 0} (K : Kind V) (n : ℕ) (ls : List (Link V)) (es : List Ent
       let q = and_parts (stands n es v && not (has taken v)) _ p.0 in
       let r = and_parts (stands n es v) (not (has taken v)) q.0 in (
         r.0,
-        not_true (has taken v) r.1,
+        not-true (has taken v) r.1,
         (λ w st out.
             let here = all_true n _ q.1 w (stands_less n es w st) in
-            ⊎_elim (λ (e : not (stands n es w && not (has taken w)) ≡ true). absurd (let k = not_true (stands n es w && not (has taken w)) e in grind arith)) (λ e. e)
+            ⊎_elim (λ (e : not (stands n es w && not (has taken w)) ≡ true). absurd (let k = not-true (stands n es w && not (has taken w)) e in grind arith)) (λ e. e)
             (or_cases (not (stands n es w && not (has taken w))) (K.at_most (key K n ls es taken w) (key K n ls es taken v)) here)),
         order_sound taken p.1,
       )
@@ -167,7 +167,7 @@ module _ {V : Type 0} (K : Kind V) (n : ℕ) (ls : List (Link V)) (es : List Ent
   complete_sound : (taken : List ℕ) → complete_by_trial taken ≡ true → Complete K n ls es taken
   unfolding complete_by_trial
   complete_sound taken h w st =
-      ⊎_elim (λ (e : not (stands n es w) ≡ true). absurd (let k = not_true (stands n es w) e in grind arith)) (λ e. e)
+      ⊎_elim (λ (e : not (stands n es w) ≡ true). absurd (let k = not-true (stands n es w) e in grind arith)) (λ e. e)
       (or_cases (not (stands n es w)) (has taken w) (all_true n _ h w (stands_less n es w st)))
 
 module _ {V : Type 0} (K : Kind V) (n : ℕ) (ls : List (Link V)) where
@@ -179,7 +179,7 @@ module _ {V : Type 0} (K : Kind V) (n : ℕ) (ls : List (Link V)) where
   lightest_sound u h =
       let p = and_parts (ltb u n) _ h in
       let q = and_parts (all_below n (λ w. K.at_most (degree K ls [] u) (degree K ls [] w))) _ p.1 in
-      record { unit = ltb-true u n p.0; least = all_true n _ q.0; first = λ w l. not_true _ (all_true u _ q.1 w l) }
+      record { unit = ltb-true u n p.0; least = all_true n _ q.0; first = λ w l. not-true _ (all_true u _ q.1 w l) }
 
   -- whether a step is allowed, and where it leads
   unfoldable pub allowed : Step → Point → Bool
@@ -194,12 +194,12 @@ module _ {V : Type 0} (K : Kind V) (n : ℕ) (ls : List (Link V)) where
   unfolding allowed after_step
   step_sound (tested u v ground) p h w =
       let q = and_parts (not (ended K n ls p)) _ h in
-      test w (not_true _ q.0) u v ground (first_sound K n ls p.done (best_weight K n ls p) u v ground q.1)
+      test w (not-true _ q.0) u v ground (first_sound K n ls p.done (best_weight K n ls p) u v ground q.1)
   step_sound (scanning taken) p h w =
       let q = and_parts (not (ended K n ls p) && none_of K n ls p.done (best_weight K n ls p) (λ a b. true)) _ h in
       let r = and_parts (not (ended K n ls p)) _ q.0 in
       let s = and_parts (order_by_trial K n ls p.done (best_weight K n ls p) taken) _ q.1 in
-      scan w (not_true _ r.0) (λ a b is ground m. none_of_sound K n ls p.done (best_weight K n ls p) (λ a b. true) r.1 a b is refl ground m) taken
+      scan w (not-true _ r.0) (λ a b is ground m. none_of_sound K n ls p.done (best_weight K n ls p) (λ a b. true) r.1 a b is refl ground m) taken
       (order_sound K n ls p.done (best_weight K n ls p) taken s.0) (complete_sound K n ls p.done (best_weight K n ls p) taken s.1)
 
   -- all steps are allowed, and where they lead

@@ -31,7 +31,7 @@ module _ {V : Type 0} (K : Kind V) where
       (n : ℕ) (ls : List (Link V)) → Sound K n ls → (es : List Entry) → Joins n [] es
       → (best : V) → K.amount best ≤ limit → ((g : ℕ) → stands n es g ≡ true → AtMost K best (degree K ls es g))
       → (u v : ℕ) → stands n es u ≡ true → stands n es v ≡ true → (u ≢ v)
-      → (ground : Ground) → Meets K n ls es best u v ground → LosesNothing n ls es best u v
+      → (why : Ground) → Meets K n ls es best u v why → LosesNothing n ls es best u v
 
   -- ground 5: no division that parts a found pair weighs less than the cap, which is best at the scan's start
   abbrev pub ScanSafe : Type 0

@@ -17,7 +17,7 @@ pub record Point : Type 0 where
   pub scans : ℕ
 
 abbrev pub merger : ℕ → ℕ → Ground → ℕ → Entry
-merger a b ground scan = record { low = min a b; high = max a b; ground = ground; scan = scan }
+merger a b why scan = record { low = min a b; high = max a b; ground = why; scan = scan }
 
 module _ {V : Type 0} (K : Kind V) (n : ℕ) (ls : List (Link V)) where
   -- the lightest unit, the lowest number among equals
@@ -62,6 +62,6 @@ module _ {V : Type 0} (K : Kind V) (n : ℕ) (ls : List (Link V)) where
   pub data Work : Point → Type 0 where
     begin : (u : ℕ) → Lightest u → Work (record { done = []; best = group [] u; scans = 0 })
     -- the first pair that meets a test
-    test : {p : Point} → Work p → ended p ≡ false → (u v : ℕ) (ground : Ground) → First K n ls p.done (best_weight p) u v ground → Work (merge p (merger u v ground 0))
+    test : {p : Point} → Work p → ended p ≡ false → (u v : ℕ) (why : Ground) → First K n ls p.done (best_weight p) u v why → Work (merge p (merger u v why 0))
     -- no pair meets one: a scan, in which any heaviest group may be taken
     scan : {p : Point} → Work p → ended p ≡ false → None K n ls p.done (best_weight p) → (taken : List ℕ) → Order K n ls p.done taken → Complete K n ls p.done taken → Work (scanned taken p)

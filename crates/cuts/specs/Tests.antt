@@ -37,10 +37,10 @@ module _ {V : Type 0} (K : Kind V) (n : ℕ) (ls : List (Link V)) (es : List Ent
   Pair u v = (stands n es u ≡ true) × (stands n es v ≡ true) × (u < v) × (above K (joint K ls es u v) ≡ true)
 
   -- the pair u, v is the first that meets a test, and the ground is the lowest whose test it meets
-  pub record First (best : V) (u v : ℕ) (ground : Ground) : Type 0 where
+  pub record First (best : V) (u v : ℕ) (why : Ground) : Type 0 where
     pub pair : Pair u v
-    pub meets : Meets best u v ground
-    pub lowest : (other : Ground) → Meets best u v other → ground_number other < ground_number ground → ⊥
+    pub meets : Meets best u v why
+    pub lowest : (other : Ground) → Meets best u v other → ground_number other < ground_number why → ⊥
     pub earlier : (a b : ℕ) → Pair a b → (a < u) ⊎ ((a ≡ u) × (b < v)) → (other : Ground) → Meets best a b other → ⊥
 
   -- no pair meets a test

@@ -37,7 +37,7 @@ abbrev pub off : {V : Type 0} → ℕ → ℕ → V → Link V
 off a b w = record { first = a; second = b; in_service = false; weight = w }
 
 abbrev pub entry : ℕ → ℕ → Ground → ℕ → Entry
-entry low high ground scan = record { low = low; high = high; ground = ground; scan = scan }
+entry low high why scan = record { low = low; high = high; ground = why; scan = scan }
 
 abbrev pub case : {V : Type 0} → ℕ → List (Link V) → V → List ℕ → List Entry → ℕ → Worked V
 case units links figure marks entries scans = record { units = units; links = links; figure = figure; marks = marks; entries = entries; scans = scans }

@@ -19,7 +19,7 @@ module _ {V : Type 0} (K : Kind V) (n : ℕ) (ls : List (Link V)) (es : List Ent
   -- the lowest ground whose test the pair meets, or none where it meets no test
   abbrev pub Judged : ℕ → ℕ → Option Ground → Type 0
   Judged u v None = (other : Ground) → Meets K n ls es best u v other → ⊥
-  Judged u v (Some ground) = Meets K n ls es best u v ground × ((other : Ground) → Meets K n ls es best u v other → ground_number other < ground_number ground → ⊥)
+  Judged u v (Some why) = Meets K n ls es best u v why × ((other : Ground) → Meets K n ls es best u v other → ground_number other < ground_number why → ⊥)
 
   -- the first pair that meets a test, under its lowest ground, or none where no pair meets one
   abbrev pub Passed : Option (ℕ × ℕ × Ground) → Type 0

@@ -3,7 +3,7 @@ use Rattle.std.proofs.Common.{◌≡◌, ℕ, zero, suc, ◌+◌, ◌*◌, ◌<�
 use Rattle.std.specs.List.{AllWithin, flat_map, AllByRecursion as All}
 use Rattle.std.proofs.ByRecursion.{All-map, All-push, all_from_every}
 use Rattle.std.proofs.lemmas.List.{take_all, take_more, length-map, length-take, length-take-le, length-drop, length_push, get_or-take, get_or_push, get_or_append_left, take-append-le, flat_map_more}
-use Rattle.std.proofs.lemmas.Bool.{cases_Bool, cases_lt, cond-true, cond-false, eq-eqb, eqb-true, both_ways, not_true}
+use Rattle.std.proofs.lemmas.Bool.{cases_Bool, cases_lt, cond-true, cond-false, eq-eqb, eqb-true, both_ways, not-true}
 use Rattle.refusals.specs.declared.Refusal.{Refusal}
 use Rattle.weights.specs.declared.weight.Weight.{Ghosts}
 use Rattle.codes.specs.Code.{is_code}
@@ -91,7 +91,7 @@ module _ {W : Type 0} (g : Ghosts W) (bs : List ℕ) where
       let size : length texts ≡ n = ap length e ∙ length_texts bs n in
       let low : k < n = omega arith in
       let v = check_passed _ _ _ (right (code k) (clear_at g bs (λ j. code j ∷ []) n k low clear).0) in
-      let free = not_true _ (check_passed _ _ _ v.1).0 in
+      let free = not-true _ (check_passed _ _ _ v.1).0 in
       let t = text_at bs n k low in
       ap (λ ts. borne_by_other k (get_or ts k []) (take k ts)) e
       ∙ (ap (λ x. borne_by_other k x (take k (texts_in bs n))) t.0 ∙ (ap (borne_by_other k (text_in bs k)) t.1 ∙ free))

@@ -1,7 +1,7 @@
 -- The turn of a group that was taken: how keys and found pairs grow as one group after another is raised.
 use Rattle.std.proofs.Common.{◌≡◌, ℕ, ◌+◌, ◌<◌, ◌≤◌, true, false, cond, not, eqb, ltb, List, [], ◌∷◌, ◌++◌, sym, ap, ◌∙◌, ⊎_elim, append_assoc, append-nil, add-one, arith}
 use Rattle.std.proofs.lemmas.Bool.Decides.{nat_tests}
-use Rattle.std.proofs.lemmas.Bool.{cases_eq, cond-true, cond-false, and_parts, and_left, and_right, and_from, or_parts, not_true, eqb-false}
+use Rattle.std.proofs.lemmas.Bool.{cases_eq, cond-true, cond-false, and_parts, and_left, and_right, and_from, or_parts, not-true, eqb-false}
 use Rattle.weights.specs.Laws.{limit}
 use Rattle.cuts.specs.declared.entry.Entry.{Entry}
 use Rattle.cuts.specs.Kinds.{Kind, Lawful, above}
@@ -14,7 +14,7 @@ use Rattle.scans.specs.Waits.{rest}
 
 -- one that is left is not the one taken last, and was left before
 pub rest_stands : (n : ℕ) (es : List Entry) (taken : List ℕ) (x : ℕ) → rest n es taken x ≡ true → (stands n es x ≡ true) × (has taken x ≡ false)
-rest_stands n es taken x h = let p = and_parts (stands n es x) (not (has taken x)) h in (p.0, not_true _ p.1)
+rest_stands n es taken x h = let p = and_parts (stands n es x) (not (has taken x)) h in (p.0, not-true _ p.1)
 
 pub rest_apart : (n : ℕ) (es : List Entry) (v : ℕ) (taken : List ℕ) (x : ℕ) → rest n es (v ∷ taken) x ≡ true → v ≡ x → ⊥
 rest_apart n es v taken x h e = eqb-false x v (or_parts (eqb x v) (has taken x) (rest_stands n es (v ∷ taken) x h).1).0 (sym e)

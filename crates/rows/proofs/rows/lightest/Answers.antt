@@ -1,5 +1,5 @@
 use Rattle.std.proofs.Common.{◌≡◌, ℕ, ◌+◌, ◌<◌, List, [], sym, ◌∙◌, subst, arith}
-use Rattle.std.proofs.lemmas.Bool.{not_true, not_false}
+use Rattle.std.proofs.lemmas.Bool.{not-true, not-false}
 use Rattle.cuts.specs.Kinds.{kind_of}
 use Rattle.cuts.specs.Links.{Link}
 use Rattle.cuts.specs.Records.{Lightest}
@@ -23,8 +23,8 @@ loop-u-preserved g c =
     let compared = λ (ls : List (Link g.W.Weight.Value)) (h : Holds g.W.Weight n ls [] table). units_compared g.W.Weight n ls table h c.loop-u.unit c.loop-u.u c.loop-u.invariant.0 c.loop-u-test.true in
     let P : ℕ → Type 0 = λ u. (u < n) × ((ls : List (Link g.W.Weight.Value)) → Holds g.W.Weight n ls [] table → Lightest K (c.loop-u.u + 1) ls u) in
     elim c.if-is-lighter.branch [
-      | then-is-lighter w ↦ subst P (sym w.unit-is) (c.loop-u-test.true, λ ls h. lightest_next K met.laws n ls (fits ls h) c.loop-u.u c.loop-u.unit c.loop-u-test.true (c.loop-u.invariant.1 ls h) (compared ls h ∙ not_true _ (sym c.is-lighter.ensures ∙ w.if-is-lighter.true)))
-      | else-is-lighter w ↦ subst P (sym w.unit-is) (c.loop-u.invariant.0, λ ls h. lightest_same K met.laws n ls (fits ls h) c.loop-u.u c.loop-u.unit c.loop-u-test.true (c.loop-u.invariant.1 ls h) (compared ls h ∙ not_false _ (sym c.is-lighter.ensures ∙ w.if-is-lighter.false)))
+      | then-is-lighter w ↦ subst P (sym w.unit-is) (c.loop-u-test.true, λ ls h. lightest_next K met.laws n ls (fits ls h) c.loop-u.u c.loop-u.unit c.loop-u-test.true (c.loop-u.invariant.1 ls h) (compared ls h ∙ not-true _ (sym c.is-lighter.ensures ∙ w.if-is-lighter.true)))
+      | else-is-lighter w ↦ subst P (sym w.unit-is) (c.loop-u.invariant.0, λ ls h. lightest_same K met.laws n ls (fits ls h) c.loop-u.u c.loop-u.unit c.loop-u-test.true (c.loop-u.invariant.1 ls h) (compared ls h ∙ not-false _ (sym c.is-lighter.ensures ∙ w.if-is-lighter.false)))
     ]
 
 pub returns : goal.returns
