@@ -3,8 +3,9 @@ ghost use Rattle.std.specs.Prelude.{◌≡◌, ℕ, true, ◌⊎◌, length, Som
 ghost use Rattle.codes.specs.Code.{is_code};
 ghost use Rattle.codes.specs.Held.{bytes_of};
 ghost use Rattle.std.specs.Cmp.Rules.{comparing};
-ghost use Rattle.std.proofs.Common.{rules, arith};
-ghost use Rattle.std.specs.Cmp as Keys;
+ghost use Rattle.std.proofs.Common.{rules};
+ghost use Rattle.std.specs.Ordering.{on};
+ghost use lib.Pointwise.{pointwise};
 
 use crate::code::FaultCode;
 use std::fmt;
@@ -36,17 +37,20 @@ impl FaultCode {
 
 // Two codes are the same where length and every character agree.
 impl PartialEq for FaultCode {
-    ghost equals = { λ a b r. Decides r (bytes_of a ≡ bytes_of b) };
+    ghost eq = { on bytes_of (pointwise ◌==◌) };
 
-    ghost laws = { Keys.partial_equiv_from_equiv (first_of (Prim.search (comparing, rules), Prim.grind (arith, Self.row.coded.inj))) };
+    ghost laws = { Prim.search (comparing, rules) };
 
-    fn eq(&self, other: &FaultCode) -> bool {
+    fn eq(&self, other: &FaultCode) -> bool
+        ensures value { result ≡ pointwise ◌==◌ (bytes_of self.now) (bytes_of other.now) }
+        ensures rule { Decides result (bytes_of self.now ≡ bytes_of other.now) }
+    {
         self.text() == other.text()
     }
 }
 
 impl Eq for FaultCode {
-    ghost laws = { first_of (Prim.search (comparing, rules), Prim.grind (arith, Self.row.coded.inj)) };
+    ghost laws = { Prim.search (comparing, rules) };
 }
 
 // Writes the characters.

@@ -20,22 +20,18 @@ no_longer t e = ⊎_elim (λ p. omega arith) (λ p. omega arith) ((decides_code 
 front : (x t z : List ℕ) → x ≡ t → take (length t) (x ++ z) ≡ t
 front x t z e = take_at x z (length t) (ap length e) ∙ e
 
-pub invariant-of-result : goal.invariant-of-result
-invariant-of-result c =
+pub invariant_of-result : goal.invariant_of-result
+invariant_of-result c =
     let t = c.args.text.now in
-    let copied = c.copy-from-slice.ensures.after in
-    let most = no_longer t c.requires in (
-      seven _ _ (length t) (ap length copied) most (zeros (length t)),
-      (
-        most,
-        (
-          ap is_code (front _ t _ copied) ∙ c.requires,
-          (drop_at _ _ (length t) (ap length copied) ∙ zeros (length t), tt),
-        ),
-      ),
-    )
+    let copied = c.copy_from_slice.ensures.after in
+    let most = no_longer t c.requires in record {
+      size = seven _ _ (length t) (ap length copied) most (zeros (length t));
+      within = most;
+      code = ap is_code (front _ t _ copied) ∙ c.requires;
+      pad = drop_at _ _ (length t) (ap length copied) ∙ zeros (length t);
+    }
 
 pub returns : goal.returns
 returns c =
-    let held = front _ c.args.text.now _ c.copy-from-slice.ensures.after in
+    let held = front _ c.args.text.now _ c.copy_from_slice.ensures.after in
     record { chars = held; only = λ d e. told d _ (e ∙ sym held) }
