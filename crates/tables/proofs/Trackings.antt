@@ -1,12 +1,11 @@
 -- How the arrays of the groups follow the mergers.
-use Rattle.std.proofs.Common.{◌≡◌, ℕ, ◌+◌, ◌-◌, ◌<◌, ◌≤◌, Bool, true, false, cond, not, ◌&&◌, eqb, ltb, List, [], ◌∷◌, ◌++◌, length, get_or, set, sym, refl, ap, ◌∙◌, subst, ⊎_elim, arith, length-append}
+use Rattle.std.proofs.Common.{◌≡◌, ℕ, ◌+◌, ◌-◌, ◌<◌, ◌≤◌, Bool, true, false, cond, not, ◌&&◌, eqb, List, [], ◌∷◌, ◌++◌, length, get_or, set, sym, ap, ◌∙◌, subst, ⊎_elim, arith, length-append}
 use Rattle.std.proofs.lemmas.List.{get_or-set_other, get_or-set_same, get_or_past, length-set}
 use Rattle.std.proofs.lemmas.Bool.{cases_eq, cases_lt}
 use Rattle.std.proofs.lemmas.Bool.Decides.{nat_tests}
 use Rattle.cuts.specs.declared.entry.Entry.{Entry}
 use Rattle.cuts.specs.Groups.{after, stands, Joins}
-use Rattle.cuts.proofs.Names.{Named, named, stands_more, stands_less, after_more}
-use Rattle.tables.specs.Meaning.{Tracks}
+use Rattle.cuts.proofs.Names.{named, stands_more, after_more}
 
 pub get_d_false : (xs : List Bool) (i j : ℕ) → get_or (set xs i false) j false ≡ (get_or xs j false && not (eqb j i))
 get_d_false xs i j =

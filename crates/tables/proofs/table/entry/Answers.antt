@@ -1,16 +1,16 @@
-use Rattle.std.proofs.Common.{◌≡◌, ◌+◌, ◌*◌, ◌<◌, length, sym, ap, ◌∙◌, arith}
+use Rattle.std.proofs.Common.{◌+◌, ◌*◌, ◌<◌, length, sym, ap, ◌∙◌, arith}
 use Rattle.std.proofs.lemmas.Nat.{mul-add-lt, mul-le}
 use Rattle.tables.proofs.Cells.{value_get_d}
 use Rattle.tables.proofs.table.entry.Goals as goal
 
-pub overflow-mul-result : goal.overflow-mul-result
-overflow-mul-result g c = let h = mul-le c.args.row c.args.n 64 64 (omega arith) (omega arith) in omega arith
+pub overflow_mul-result : goal.overflow_mul-result
+overflow_mul-result g c = let h = mul-le c.args.row c.args.n 64 64 (omega arith) (omega arith) in omega arith
 
-pub overflow-add-result : goal.overflow-add-result
-overflow-add-result g c = let h = mul-le c.args.row c.args.n 64 64 (omega arith) (omega arith) in omega arith
+pub overflow_add-result : goal.overflow_add-result
+overflow_add-result g c = let h = mul-le c.args.row c.args.n 64 64 (omega arith) (omega arith) in omega arith
 
-pub offset-bounds-table-row : goal.offset-bounds-table-row
-offset-bounds-table-row g c = let h = mul-add-lt c.args.row c.args.n c.args.column c.args.n c.requires.row c.requires.column in omega arith
+pub offset_bounds-table-row : goal.offset_bounds-table-row
+offset_bounds-table-row g c = let h = mul-add-lt c.args.row c.args.n c.args.column c.args.n c.requires.row c.requires.column in omega arith
 
 pub bounds-table-row : goal.bounds-table-row
 bounds-table-row g c = let h = mul-add-lt c.args.row c.args.n c.args.column c.args.n c.requires.row c.requires.column in omega arith

@@ -1,4 +1,4 @@
-use Rattle.std.proofs.Common.{◌≡◌, ℕ, ◌+◌, ◌-◌, ◌<◌, true, false, cond, eqb, List, [], ◌∷◌, ◌++◌, length, get_or, set, sym, refl, ap, ◌∙◌, subst, arith}
+use Rattle.std.proofs.Common.{◌≡◌, ℕ, ◌<◌, false, cond, eqb, [], ◌∷◌, ◌++◌, get_or, set, sym, refl, subst, arith}
 use Rattle.cuts.specs.Groups.{stands}
 use Rattle.tables.proofs.Trackings.{standing_more, names_more, left_more}
 use Rattle.tables.proofs.groups.Groups.join.Goals as goal
