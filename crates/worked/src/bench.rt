@@ -239,7 +239,7 @@ pub fn is_example(filing: &Filing<Plain>) -> Result<bool, Refusal>
             link.second as usize,
             link.weight.amount(),
         );
-        if units[k].code.text() != &CODES[k] || joint != LINKS[k] || !link.in_service {
+        if units[k].code.text() != CODES[k].as_slice() || joint != LINKS[k] || !link.in_service {
             return Ok(false);
         }
     }

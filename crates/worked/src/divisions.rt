@@ -9,6 +9,7 @@ use filings::filing::Filing;
 use plans::plan::Link;
 use queues::list::{ListQueue, Slot};
 use refusals::Refusal;
+use std::test::Fail;
 use weights::ranked::Ranked;
 use weights::weight::Weight;
 

@@ -2,6 +2,7 @@
 use crate::bench::*;
 use filings::filing::Filing;
 use plans::plan::Link;
+use std::test::Fail;
 use weights::plain::Plain;
 
 #[test]

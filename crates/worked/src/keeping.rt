@@ -2,6 +2,7 @@
 // 0–1:3 and 2–3:4 on one side each, 1–2:1 and 0–3:2 between the sides. What is worked out anew is the least degree,
 // or what lies between 0, 1 and 2, 3.
 use crate::bench::*;
+use std::test::Fail;
 
 #[test]
 fn over_recode_enter_and_read(rt: HostRuntime) -> Result<(), Fail> {

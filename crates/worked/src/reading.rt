@@ -6,6 +6,7 @@ use plans::plan::Link;
 use refusals::Refusal;
 use sheets::fault::{Fault, Part};
 use std::process::Abort;
+use std::test::Fail;
 use weights::plain::Plain;
 
 // One byte of the sheet of four units that is changed, how many bytes of the sheet are read, and the fault.

@@ -5,6 +5,7 @@ use drains::tied::{Tie, TiedQueue};
 use filings::filing::Filing;
 use plans::plan::Link;
 use refusals::Refusal;
+use std::test::Fail;
 use weights::plain::Plain;
 use weights::weight::Weight;
 

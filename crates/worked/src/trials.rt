@@ -3,6 +3,7 @@ use crate::bench::*;
 use cuts::ground::Ground;
 use filings::filing::Filing;
 use plans::plan::Link;
+use std::test::Fail;
 use weights::plain::Plain;
 
 // Without 2–3:4 the degrees are 5, 4, 1, 2: best is 1. Units 0 and 1 share 3, ground 1; their group weighs 3 and
