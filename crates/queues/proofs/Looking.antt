@@ -1,9 +1,8 @@
 -- What a look through the entries keeps: the best entry so far.
-use Rattle.std.proofs.Common.{◌≡◌, ℕ, zero, suc, ◌+◌, ◌<◌, ◌≤◌, Bool, true, false, cond, eqb, ◌⊎◌, Some, None, Option, sym, refl, ap, ◌∙◌, inl, inr, ⊎_elim, arith}
-use Rattle.std.proofs.lemmas.Bool.{cases_lt, cases_eq, cases_Bool}
-use Rattle.std.specs.Map.{update}
-use Rattle.queues.specs.Keys.{Empty, Becomes, Heaviest, Taken}
-use Rattle.queues.specs.Slots.{Best, First, beats}
+use Rattle.std.proofs.Common.{◌≡◌, ℕ, ◌<◌, ◌≤◌, Bool, true, false, cond, Some, None, Option, sym, refl, ap, ◌∙◌, ⊎_elim, arith}
+use Rattle.std.proofs.lemmas.Bool.{cases_lt, cases_eq}
+use Rattle.queues.specs.Keys.{Becomes, Leads, Taken}
+use Rattle.queues.specs.Slots.{Best, beats}
 use Rattle.queues.proofs.Orders.{Ordered, le_self, le_flip, le_above}
 use Rattle.std.proofs.lemmas.Map.{update_here, update_apart}
 use Rattle.queues.proofs.Slotted.{update_same}
@@ -27,7 +26,6 @@ pub best_same : {W : Type 0} (le : W → W → Bool) (before after : ℕ → Opt
 best_same le before after same None b = λ k. same k ∙ b k
 best_same le before after same (Some p) b = (
   record {
-    group = b.0.group;
     here = same p.0 ∙ b.0.here;
     most = λ h v e. b.0.most h v (sym (same h) ∙ e);
   },
@@ -60,31 +58,28 @@ module _ {W : Type 0} (le : W → W → Bool) (laws : Ordered le) (before after 
     best_keep (Some p) b e =
         let lt = under p.0 p.1 b.0.here in (
           record {
-            group = b.0.group;
             here = now_else p.0 (λ s. omega arith) ∙ b.0.here;
             most = now_most p.1 (not_beaten (le x p.1) e) b.0.most;
           },
           λ h v before-p there. b.1 h v before-p (sym (now_else h (λ s. omega arith)) ∙ there),
         )
 
-    pub best_new : i < 64 → (o : Option (ℕ × W)) → Best le before o → beats le o x ≡ true → Best le after (Some (i, x))
-    best_new low None b e = (
+    pub best_new : (o : Option (ℕ × W)) → Best le before o → beats le o x ≡ true → Best le after (Some (i, x))
+    best_new None b e = (
       record {
-        group = low;
         here = now_there;
         most = now_most x (le_self laws x) (λ h v there. clash there (b h));
       },
       λ h v lt there. clash there (now_else h (λ s. omega arith) ∙ b h),
     )
-    best_new low (Some p) b e =
+    best_new (Some p) b e =
         let less = beaten (le x p.1) e in (
           record {
-            group = low;
             here = now_there;
             most = now_most x (le_self laws x) (λ h v there. laws.trans v p.1 x (b.0.most h v there) (le_flip laws x p.1 less));
           },
           λ h v lt there. le_above laws x p.1 v less (b.0.most h v (sym (now_else h (λ s. omega arith)) ∙ there)),
         )
 
-pub taken_some : {W : Type 0} (le : W → W → Bool) (before after : ℕ → Option W) (o : Option (ℕ × W)) (p : ℕ × W) → o ≡ Some p → Heaviest le before p.0 p.1 → Becomes before after p.0 None → Taken le before after o
-taken_some le before after o p e h b = rw e (h, b)
+pub taken_some : {W : Type 0} (le : W → W → Bool) (before after : ℕ → Option W) (o : Option (ℕ × W)) (p : ℕ × W) → o ≡ Some p → p.0 < 64 → Leads le before p.0 p.1 → Becomes before after p.0 None → Taken le before after o
+taken_some le before after o p e low h b = rw e (record { group = low; here = h.here; most = h.most }, b)

@@ -1,5 +1,5 @@
 -- What slots hold after a write, and below a reach.
-use Rattle.std.proofs.Common.{◌≡◌, ℕ, zero, suc, ◌+◌, ◌<◌, ◌≤◌, Bool, true, false, cond, eqb, ltb, ◌⊎◌, List, [], ◌∷◌, length, get_or, set, is_some, Some, None, Option, sym, refl, ap, ◌∙◌, inl, inr, ⊎_elim, arith}
+use Rattle.std.proofs.Common.{◌≡◌, ℕ, zero, suc, ◌+◌, ◌<◌, ◌≤◌, true, false, cond, eqb, ltb, List, [], ◌∷◌, length, get_or, set, is_some, Some, None, Option, sym, refl, ap, ◌∙◌, ⊎_elim, arith}
 use lib.Dec.{eqb-zero-suc, eqb-suc-zero, eqb-suc-suc}
 use Rattle.std.proofs.lemmas.Bool.{cases_eq, cases_lt, cond-true, cond-false, lt-ltb, le-ltb}
 use Rattle.std.proofs.lemmas.Bool.Decides.{nat_tests}
@@ -17,9 +17,9 @@ keyed_at (x ∷ ss) (suc i) s h e = keyed_at ss i s (omega arith) e
 pub keyed_set : {W : Type 0} (ss : List (Slot W)) (g q : ℕ) (s : Slot W) → g < length ss → keyed (set ss g s) q ≡ update eqb (keyed ss) g (held s) q
 keyed_set [] g q s h = absurd (omega arith)
 keyed_set (x ∷ ss) zero zero s h = refl
-keyed_set (x ∷ ss) zero (suc q) s h = rw (eqb-suc-zero q)
-keyed_set (x ∷ ss) (suc g) zero s h = rw (eqb-zero-suc g)
-keyed_set (x ∷ ss) (suc g) (suc q) s h = rw (eqb-suc-suc q g) (keyed_set ss g q s (omega arith))
+keyed_set (x ∷ ss) zero (suc q) s h = rw (eqb-zero-suc q)
+keyed_set (x ∷ ss) (suc g) zero s h = rw (eqb-suc-zero g)
+keyed_set (x ∷ ss) (suc g) (suc q) s h = rw (eqb-suc-suc g q) (keyed_set ss g q s (omega arith))
 
 -- an update that says the same
 pub update_same : {X : Type 0} (f : ℕ → Option X) (g q : ℕ) (x : Option X) → f g ≡ x → update eqb f g x q ≡ f q
@@ -67,4 +67,4 @@ none_left (Some v) e = let z : true ≡ false = e in absurd (grind arith)
 
 -- the same update of the same entries
 pub update_ap : {X : Type 0} (f h : ℕ → Option X) (g q : ℕ) (x : Option X) → ((k : ℕ) → f k ≡ h k) → update eqb f g x q ≡ update eqb h g x q
-update_ap f h g q x same = ap (λ y. cond (eqb q g) x y) (same q)
+update_ap f h g q x same = ap (λ y. cond (eqb g q) x y) (same q)

@@ -23,6 +23,11 @@ pub record Heaviest {W : Type 0} (le : W → W → Bool) (key : ℕ → Option W
   pub here : key g ≡ Some k
   pub most : (h : ℕ) (v : W) → key h ≡ Some v → le v k ≡ true
 
+-- the group g waits with the key k, and no key is heavier
+pub record Leads {W : Type 0} (le : W → W → Bool) (key : ℕ → Option W) (g : ℕ) (k : W) : Type 0 where
+  pub here : key g ≡ Some k
+  pub most : (h : ℕ) (v : W) → key h ≡ Some v → le v k ≡ true
+
 -- put: 9 above 63, then 18 if it waits already, and a refusal changes no entry
 abbrev pub Put : {W U : Type 0} → (ℕ → Option W) → (ℕ → Option W) → ℕ → W → Result U Refusal → Type 0
 Put before after g k (Ok _) = (g < 64) × (before g ≡ None) × Becomes before after g (Some k)

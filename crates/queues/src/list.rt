@@ -2,7 +2,7 @@
 ghost use Rattle.std.specs.Prelude.{◌≡◌, ℕ, ◌<◌, ◌≤◌, length, Some, None};
 ghost use Rattle.queues.specs.Keys.{Empty, Unchanged, Becomes};
 ghost use Rattle.queues.specs.Memory.{Enough, Unsettled};
-ghost use Rattle.queues.specs.Slots.{held, waiting, Fits, Within, Reached, Best, beats};
+ghost use Rattle.queues.specs.Slots.{held, keyed, waiting, waiting_within, Fits, Spared, Within, Reached, Best, beats};
 
 use crate::queue::{GROUPS, PriorityQueue};
 use refusals::Refusal;
@@ -80,6 +80,7 @@ impl<'a, W: Weight> ListQueue<'a, W> {
         requires within { group < 64 }
         ensures sound { Fits (length self.new.slots.now) self.new.reach }
         ensures key { Becomes (waiting self.old.slots.now self.old.reach) (waiting self.new.slots.now self.new.reach) group (Some key) }
+        ensures rest { Spared self.old.slots.now self.new.slots.now }
         ensures memory { Unsettled 64 self.old.slots.now self.new.slots.now }
     {
         self.reach_past(group);
@@ -92,6 +93,7 @@ impl<'a, W: Weight> ListQueue<'a, W> {
         requires reached { group < self.old.reach }
         ensures sound { Fits (length self.new.slots.now) self.new.reach }
         ensures key { Becomes (waiting self.old.slots.now self.old.reach) (waiting self.new.slots.now self.new.reach) group None }
+        ensures rest { Spared self.old.slots.now self.new.slots.now }
         ensures memory { Unsettled 64 self.old.slots.now self.new.slots.now }
     {
         self.slots[group].waits = false;
@@ -104,6 +106,7 @@ impl<'a, W: Weight> ListQueue<'a, W> {
         ensures sound { Fits (length self.new.slots.now) self.new.reach }
         ensures reached { group < self.new.reach }
         ensures same { Unchanged (waiting self.old.slots.now self.old.reach) (waiting self.new.slots.now self.new.reach) }
+        ensures rest { Spared self.old.slots.now self.new.slots.now }
         ensures memory { Unsettled 64 self.old.slots.now self.new.slots.now }
     {
         if group < self.reach {
@@ -123,6 +126,8 @@ impl<'a, W: Weight> PriorityQueue for ListQueue<'a, W> {
     ghost key = { λ q. waiting q.slots.now q.reach };
 
     ghost spares = { λ p q. Unsettled 64 p.slots.now q.slots.now };
+
+    ghost within = { λ q s g h. waiting_within q.slots.now q.reach g s.0 h };
 
     fn clear(&mut self) {
         self.reach = 0;
@@ -177,6 +182,7 @@ fn empty_between<W: Weight>(slots: &mut [Slot<W>], from: usize, to: usize)
     requires order { from ≤ to }
     requires within { to ≤ length slots.old }
     ensures same { Unchanged (waiting slots.old from) (waiting slots.new to) }
+    ensures rest { (g : ℕ) → to ≤ g → keyed slots.new g ≡ keyed slots.old g }
     ensures memory { Unsettled to slots.old slots.new }
 {
     for i in from..to {
@@ -186,7 +192,7 @@ fn empty_between<W: Weight>(slots: &mut [Slot<W>], from: usize, to: usize)
 
 // The heaviest entry; of equally heavy ones that of the lowest group.
 fn heaviest_of<W: Weight>(slots: &[Slot<W>], reach: usize) -> Option<(usize, W)>
-    requires { Fits (length slots.now) reach }
+    requires { reach ≤ length slots.now }
     ensures { Best (λ a b. W.Weight.le (W.Weight.value a) (W.Weight.value b)) (waiting slots.now reach) result }
 {
     let mut best: Option<(usize, W)> = None;

@@ -1,5 +1,5 @@
 // What a priority queue is.
-ghost use Rattle.std.specs.Prelude.{ℕ, Option};
+ghost use Rattle.std.specs.Prelude.{◌≡◌, ◌≤◌, ℕ, None, Option};
 ghost use Rattle.queues.specs.Keys.{Empty, Put, Raised, Taken};
 
 use refusals::Refusal;
@@ -49,4 +49,7 @@ pub trait PriorityQueue {
         ensures sound { sound self.new }
         ensures taken { Taken (λ a b. Self.Weight.Weight.le (Self.Weight.Weight.value a) (Self.Weight.Weight.value b)) (key self.old) (key self.new) result }
         ensures memory { spares self.old self.new };
+
+    // only a group from 0 to 63 has a key
+    ghost within: { (q : Self) → sound q → (g : ℕ) → 64 ≤ g → key q g ≡ None };
 }

@@ -13,7 +13,7 @@ fewer g c =
 
 pub loop-entry-init : goal.loop-entry-init
 loop-entry-init g c =
-    let w = g.row.W-Weight in
+    let w = g.W.Weight in
     let key = g.Q.PriorityQueue.key c.args.queue.now in
     let most = waiting_most key 64 in
     (c.requires.sound, refl, omega arith, drain_none (λ a b. w.le (w.value a) (w.value b)) key, refl)
@@ -34,7 +34,7 @@ loop-entry-smaller g c = let less = fewer g c in omega arith
 pub loop-entry-preserved : goal.loop-entry-preserved
 loop-entry-preserved g c =
     let q = g.Q.PriorityQueue in
-    let w = g.row.W-Weight in
+    let w = g.W.Weight in
     let inv = c.loop-entry.invariant in
     let out = c.loop-entry.out in
     let count = c.loop-entry.count in
@@ -51,7 +51,7 @@ loop-entry-preserved g c =
 pub returns : goal.returns
 returns g c =
     let q = g.Q.PriorityQueue in
-    let w = g.row.W-Weight in
+    let w = g.W.Weight in
     let inv = c.loop-entry.invariant in
     let none = c.in-default.ensures.taken in
     record {

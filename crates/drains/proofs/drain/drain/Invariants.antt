@@ -6,7 +6,7 @@ use Rattle.drains.proofs.drain.drain.Given as goal
 abbrev pub invariant-loop-entry : goal.invariant-loop-entry
 invariant-loop-entry g l =
     let q = g.Q.PriorityQueue in
-    let w = g.row.W-Weight in
+    let w = g.W.Weight in
     q.sound l.queue × (length l.out ≡ length l.initial.out) × (l.count + waiting_to (q.key l.queue) 64 ≤ 64) × Draining (λ a b. w.le (w.value a) (w.value b)) (q.key l.initial.queue) (q.key l.queue) (take l.count l.out) × (drop l.count l.out ≡ drop l.count l.initial.out)
 
 abbrev pub decreases-loop-entry : goal.decreases-loop-entry

@@ -1,6 +1,6 @@
 use Rattle.std.proofs.Common.{refl, arith}
 use Rattle.queues.proofs.Slotted.{emptied_more}
-use Rattle.queues.proofs.Memory.{unsettled_set}
+use Rattle.queues.proofs.Memory.{unsettled_set, keyed_kept}
 use Rattle.queues.proofs.list.empty_between.Goals as goal
 
 pub loop-i-preserved : goal.loop-i-preserved
@@ -11,3 +11,6 @@ loop-i-preserved g c =
       emptied_more slots old c.args.from i _ refl (omega arith) (omega arith) c.loop-i.invariant.0,
       unsettled_set old slots c.args.to i _ (omega arith) (omega arith) c.loop-i.invariant.1,
     )
+
+pub returns-clause-rest : goal.returns-clause-rest
+returns-clause-rest g c = keyed_kept _ _ c.args.to c.loop-i.invariant.1

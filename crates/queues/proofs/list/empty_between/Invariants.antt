@@ -1,4 +1,3 @@
-use Rattle.std.proofs.Common.{◌≡◌, ℕ, ◌≤◌, length}
 use Rattle.queues.specs.Keys.{Unchanged}
 use Rattle.queues.specs.Memory.{Unsettled}
 use Rattle.queues.specs.Slots.{waiting}

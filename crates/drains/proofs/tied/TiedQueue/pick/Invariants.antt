@@ -3,4 +3,4 @@ use Rattle.drains.proofs.Picking.{up_to}
 use Rattle.drains.proofs.tied.TiedQueue.pick.Given as goal
 
 abbrev pub invariant-loop-group : goal.invariant-loop-group
-invariant-loop-group g l = let w = g.row.W-Weight in Picked (λ a b. w.le (w.value a) (w.value b)) l.self.tie (up_to (keyed l.self.keys) l.group) l.best
+invariant-loop-group g l = let w = g.W.Weight in Picked (λ a b. w.le (w.value a) (w.value b)) l.self.tie (up_to (keyed l.self.keys) l.group) l.best

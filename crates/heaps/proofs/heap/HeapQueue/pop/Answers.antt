@@ -8,7 +8,7 @@ use Rattle.heaps.proofs.heap.HeapQueue.pop.Goals as goal
 
 pub sift-down-requires : goal.sift-down-requires
 sift-down-requires g c =
-    let w = g.row.W-Weight in
+    let w = g.W.Weight in
     let q = c.args.self.now in
     let after = c.swap.new.self in
     let swapped = c.swap.ensures in

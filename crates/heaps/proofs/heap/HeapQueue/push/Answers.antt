@@ -15,7 +15,7 @@ write-requires g c =
 
 pub sift-up-requires : goal.sift-up-requires
 sift-up-requires g c =
-    let w = g.row.W-Weight in
+    let w = g.W.Weight in
     let q = c.args.self.now in
     let after = c.write.new.self in
     let wrote = c.write.ensures in

@@ -18,7 +18,7 @@ write-requires g c =
 
 pub sift-up-requires : goal.sift-up-requires
 sift-up-requires g c =
-    let w = g.row.W-Weight in
+    let w = g.W.Weight in
     let laws = ordered w.value g.met.W.Weight.laws g.met.W.Weight.bounded in
     let q = c.args.self.now in
     let after = c.write.new.self in

@@ -8,7 +8,7 @@ use Rattle.heaps.proofs.heap.HeapQueue.sift_down.Goals as goal
 
 pub returns-then-not-is-before : goal.returns-then-not-is-before
 returns-then-not-is-before g c =
-    let w = g.row.W-Weight in
+    let w = g.W.Weight in
     let ranks = entry_ranks (λ a b. w.le (w.value a) (w.value b)) (ordered w.value g.met.W.Weight.laws g.met.W.Weight.bounded) in
     let q = c.loop-child.self in
     let inv = c.loop-child.invariant in
@@ -26,7 +26,7 @@ returns-then-not-is-before g c =
 
 pub returns-in-default : goal.returns-in-default
 returns-in-default g c =
-    let w = g.row.W-Weight in
+    let w = g.W.Weight in
     let ranks = entry_ranks (λ a b. w.le (w.value a) (w.value b)) (ordered w.value g.met.W.Weight.laws g.met.W.Weight.bounded) in
     let q = c.loop-child.self in
     let inv = c.loop-child.invariant in

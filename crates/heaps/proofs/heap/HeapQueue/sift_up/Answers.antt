@@ -8,7 +8,7 @@ use Rattle.heaps.proofs.heap.HeapQueue.sift_up.Goals as goal
 
 pub loop-i-preserved : goal.loop-i-preserved
 loop-i-preserved g c =
-    let w = g.row.W-Weight in
+    let w = g.W.Weight in
     let ranks = entry_ranks (λ a b. w.le (w.value a) (w.value b)) (ordered w.value g.met.W.Weight.laws g.met.W.Weight.bounded) in
     let q = c.loop-i.self in
     let after = c.swap.new.self in

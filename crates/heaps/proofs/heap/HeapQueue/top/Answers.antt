@@ -13,7 +13,7 @@ returns-then-self-eq0 g c =
 
 pub returns : goal.returns
 returns g c =
-    let w = g.row.W-Weight in
+    let w = g.W.Weight in
     let laws = ordered w.value g.met.W.Weight.laws g.met.W.Weight.bounded in
     let q = c.args.self.now in
     let some : 0 < q.count = omega (arith, c.if-self-eq0.false) in (

@@ -5,7 +5,7 @@ use Rattle.heaps.proofs.heap.HeapQueuePriorityQueue.raise.Goals as goal
 
 pub replace-requires : goal.replace-requires
 replace-requires g c =
-    let w = g.row.W-Weight in
+    let w = g.W.Weight in
     let found = c.in-Some.ensures in
     let old = c.entry-old.result in
     let sum = c.in-ok-key.ensures in
