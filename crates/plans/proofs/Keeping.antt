@@ -1,5 +1,5 @@
 -- A plan stays sound where one link is added, changed or removed, and what it then stands for.
-use Rattle.std.proofs.Common.{◌≡◌, ℕ, suc, ◌+◌, ◌-◌, ◌<◌, ◌≤◌, List, [], ◌∷◌, ◌++◌, map, length, get_or, take, drop, set, sym, refl, ap, ◌∙◌, subst, ap₂, ⊎_elim, add-one, arith}
+use Rattle.std.proofs.Common.{◌≡◌, ℕ, ◌+◌, ◌-◌, ◌<◌, ◌≤◌, [], ◌∷◌, ◌++◌, map, length, get_or, take, drop, set, sym, ap, ◌∙◌, subst, ap₂, ⊎_elim, add-one, arith}
 use Rattle.std.proofs.lemmas.Bool.{cases_lt}
 use Rattle.std.specs.List.{remove, AllWithin}
 use Rattle.std.proofs.lemmas.List.Elements.{AllWithin-more_set, AllWithin-set}
@@ -7,13 +7,13 @@ use Rattle.std.proofs.lemmas.List.{length-set, take_more_set, get_or-take, take-
 use Rattle.weights.specs.declared.weight.Weight.{Ghosts}
 use Rattle.plans.specs.declared.plan.Link.{Link}
 use Rattle.plans.specs.declared.plan.Plan.{Plan}
-use Rattle.plans.specs.Model.{Model, model_of, code_of, amount_of, total_of, changed, linked, struck}
+use Rattle.plans.specs.Model.{model_of, code_of, amount_of, total_of, changed, linked, struck}
 use Rattle.plans.specs.Shifts.{Shifted}
 use Rattle.plans.specs.Sound.{Joins, Sound, Distinct}
 use Rattle.plans.proofs.Apart.{take_of_set}
 use Rattle.plans.proofs.Linking.{link_size_lem, others}
 use Rattle.plans.proofs.Shifts.{front, every_shifted}
-use Rattle.plans.proofs.Totals.{total_append, total_changed, total_removed, set_changes}
+use Rattle.plans.proofs.Totals.{total_append, total_changed, set_changes}
 
 pub positive : {b : ℕ} (a : ℕ) → a ≡ b → (a ≡ 0 → ⊥) → 0 < b
 positive a e ne = ⊎_elim (λ (l : 0 < a). omega arith) (λ (l : a ≤ 0). absurd (ne (omega arith))) (cases_lt 0 a)

@@ -1,5 +1,5 @@
 -- The verdicts of the calls that name links, from what the code compares.
-use Rattle.std.proofs.Common.{◌≡◌, ℕ, ◌+◌, ◌<◌, ◌≤◌, Bool, true, false, not, ◌&&◌, eqb, ltb, leb, List, length, get_or, take, Some, None, sym, refl, ap, ◌∙◌, arith}
+use Rattle.std.proofs.Common.{◌≡◌, ℕ, ◌+◌, ◌<◌, ◌≤◌, true, not, ◌&&◌, ltb, leb, length, get_or, Some, sym, ap, ◌∙◌, arith}
 use Rattle.std.specs.List.{remove}
 use Rattle.std.proofs.lemmas.List.{length-take-le, get_or-take}
 use Rattle.std.proofs.lemmas.Bool.{lt-ltb, le-ltb, le-leb, lt-leb, eq-eqb, ne_eqb, and_from, and_left, and_right}
@@ -7,7 +7,7 @@ use Rattle.refusals.specs.declared.Refusal.TheVariants.{NoSuchUnit, SelfLink, No
 use Rattle.weights.specs.declared.weight.Weight.{Ghosts}
 use Rattle.plans.specs.declared.plan.Link.{Link}
 use Rattle.plans.specs.declared.plan.Plan.{Plan}
-use Rattle.plans.specs.Calls.{accepted, check, link_verdict, reweigh_verdict, strike_verdict}
+use Rattle.plans.specs.Calls.{accepted, check, link_verdict, reweigh_verdict}
 use Rattle.plans.specs.Model.{model_of, amount_of, total_of}
 use Rattle.plans.specs.Sound.{Sound}
 use Rattle.plans.proofs.Bearing.{length_codes}

@@ -1,8 +1,8 @@
 -- What each call on a plan is refused with, and what it does otherwise.
-use Rattle.std.specs.Prelude.{◌≡◌, ℕ, zero, suc, ◌+◌, Bool, true, false, cond, not, ◌&&◌, ◌||◌, List, [], ◌∷◌, length, IfErr, Some, None, Ok, Err, Option, Result, ◌==◌, nat_le, nat_lt}
+use Rattle.std.specs.Prelude.{◌≡◌, ℕ, ◌+◌, Bool, cond, not, ◌&&◌, List, length, IfErr, Some, None, Ok, Err, Option, Result, ◌==◌, nat_le, nat_lt}
 use Rattle.std.specs.List.{remove}
 use Rattle.refusals.specs.declared.Refusal.{Refusal}
-use Rattle.refusals.specs.declared.Refusal.TheVariants.{NotACode, CodeTaken, Full, NoSuchUnit, SelfLink, NoWeight, OverLimit, NoSuchLink, BadMark, NoDivision}
+use Rattle.refusals.specs.declared.Refusal.TheVariants.{NotACode, CodeTaken, Full, NoSuchUnit, SelfLink, NoWeight, OverLimit, NoSuchLink, BadMark}
 use Rattle.weights.specs.declared.weight.Weight.{Ghosts}
 use Rattle.codes.specs.Code.{is_code}
 use Rattle.plans.specs.declared.plan.Plan.{Plan}

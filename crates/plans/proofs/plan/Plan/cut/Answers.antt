@@ -7,8 +7,8 @@ use Rattle.plans.specs.Model.{total_of}
 use Rattle.plans.specs.Sound.{Joins}
 use Rattle.plans.proofs.plan.Plan.cut.Goals as goal
 
-pub cut-weight-requires : goal.cut-weight-requires
-cut-weight-requires g c =
+pub cut_weight-requires : goal.cut_weight-requires
+cut_weight-requires g c =
     let len = sym c.requires.size in
     let t = ap (total_of g.W.Weight) c.links.ensures.value in
     let k = c.requires.sound.counted in
@@ -19,4 +19,4 @@ cut-weight-requires g c =
     }
 
 pub returns : goal.returns
-returns g c = c.cut-weight.ensures ∙ ap (λ ls. weight_of (kind_of g.W.Weight) (map (valued g.W.Weight) ls) (side_of c.args.marks.now)) c.links.ensures.value
+returns g c = c.cut_weight.ensures ∙ ap (λ ls. weight_of (kind_of g.W.Weight) (map (valued g.W.Weight) ls) (side_of c.args.marks.now)) c.links.ensures.value

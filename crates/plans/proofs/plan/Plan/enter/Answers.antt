@@ -1,4 +1,4 @@
-use Rattle.std.proofs.Common.{◌≡◌, ℕ, ◌<◌, ◌≤◌, true, false, not, length, sym, refl, ap, ◌∙◌, subst, arith}
+use Rattle.std.proofs.Common.{not, length, sym, ap, ◌∙◌, subst, arith}
 use Rattle.std.proofs.lemmas.List.{length-set}
 use Rattle.std.proofs.lemmas.Bool.{lt-ltb, le-ltb}
 use Rattle.refusals.specs.declared.Refusal.TheVariants.{NotACode, CodeTaken, Full}
@@ -9,12 +9,12 @@ use Rattle.plans.proofs.Bearing.{length_codes, bearer_is}
 use Rattle.plans.proofs.Verdicts.{fails, passes, accepts, refuses}
 use Rattle.plans.proofs.plan.Plan.enter.Goals as goal
 
-pub returns-then-is-borne : goal.returns-then-is-borne
-returns-then-is-borne g c =
+pub returns-then-is_borne : goal.returns-then-is_borne
+returns-then-is_borne g c =
     let p = c.args.self.now in
     let text = c.args.text.now in
-    let code = c.in-ok-code.ensures.cases in
-    let borne = bearer_is p.units p.unit_count text _ _ (omega arith) code.1 c.is-borne.ensures ∙ c.if-is-borne.true in
+    let code = c.in_ok-code.ensures.cases in
+    let borne = bearer_is p.units p.unit_count text _ _ (omega arith) code.1 c.is_borne.ensures ∙ c.if-is_borne.true in
     record {
       sound = c.requires;
       called = refuses (length (model_of p).codes) (entered text (model_of p)) p (passes NotACode _ code.0 ∙ fails CodeTaken _ (ap not borne));
@@ -24,9 +24,9 @@ pub returns-then-at-ge-UNITS : goal.returns-then-at-ge-UNITS
 returns-then-at-ge-UNITS g c =
     let p = c.args.self.now in
     let text = c.args.text.now in
-    let code = c.in-ok-code.ensures.cases in
+    let code = c.in_ok-code.ensures.cases in
     let size = length_codes p.unit_count p.units (omega arith) in
-    let free = bearer_is p.units p.unit_count text _ _ (omega arith) code.1 c.is-borne.ensures ∙ c.if-is-borne.false in
+    let free = bearer_is p.units p.unit_count text _ _ (omega arith) code.1 c.is_borne.ensures ∙ c.if-is_borne.false in
     record {
       sound = c.requires;
       called = refuses (length (model_of p).codes) (entered text (model_of p)) p
@@ -38,10 +38,10 @@ returns g c =
     let p = c.args.self.now in
     let n = p.unit_count in
     let text = c.args.text.now in
-    let code = c.in-ok-code.ensures.cases in
+    let code = c.in_ok-code.ensures.cases in
     let size = length_codes n p.units (omega arith) in
-    let free = bearer_is p.units n text _ _ (omega arith) code.1 c.is-borne.ensures ∙ c.if-is-borne.false in
-    let codes = codes_more p.units n (record { code = c.in-ok-code.code }) text (omega arith) code.1 in
+    let free = bearer_is p.units n text _ _ (omega arith) code.1 c.is_borne.ensures ∙ c.if-is_borne.false in
+    let codes = codes_more p.units n (record { code = c.in_ok-code.code }) text (omega arith) code.1 in
     record {
       sound = record {
         few = omega arith;

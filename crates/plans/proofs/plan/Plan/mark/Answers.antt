@@ -1,9 +1,9 @@
-use Rattle.std.proofs.Common.{◌≡◌, eqb, length, sym, refl, ◌∙◌, arith}
-use Rattle.std.proofs.lemmas.Bool.{lt-ltb, le-ltb}
+use Rattle.std.proofs.Common.{eqb, refl, ◌∙◌, arith}
+use Rattle.std.proofs.lemmas.Bool.{lt-ltb}
 use Rattle.refusals.specs.declared.Refusal.TheVariants.{NoSuchLink, BadMark}
 use Rattle.plans.specs.Model.{model_of, marked}
-use Rattle.plans.proofs.Linking.{there, link_size_lem}
-use Rattle.plans.proofs.Verdicts.{accepts, refuses, passes, fails}
+use Rattle.plans.proofs.Linking.{there}
+use Rattle.plans.proofs.Verdicts.{accepts, passes}
 use Rattle.plans.proofs.plan.Plan.mark.Goals as goal
 
 pub returns : goal.returns

@@ -1,6 +1,3 @@
-use Rattle.std.proofs.Common.{◌≡◌, ℕ, ◌<◌, ◌≤◌, eqb, length, get_or}
-use Rattle.plans.specs.declared.plan.Link.{Link}
-use Rattle.plans.specs.Marks.{with_mark}
 use Rattle.plans.specs.Sound.{Sound}
 use Rattle.plans.proofs.Marking.{MarkedTo}
 use Rattle.plans.proofs.plan.Plan.put_marks.Given as goal

@@ -1,4 +1,4 @@
-use Rattle.std.proofs.Common.{◌≡◌, true, false, not, map, length, take, sym, refl, ap, ◌∙◌, subst, arith}
+use Rattle.std.proofs.Common.{not, map, length, take, sym, refl, ap, ◌∙◌, subst, arith}
 use Rattle.std.proofs.lemmas.List.{length-set}
 use Rattle.std.proofs.lemmas.Result.{err_from_is_err_and}
 use Rattle.std.proofs.lemmas.Bool.{lt-ltb, le-ltb}
@@ -19,12 +19,12 @@ returns-then-unit-self g c =
       called = refuses tt (recoded c.args.unit c.args.text.now (model_of p)) p (fails NoSuchUnit _ (le-ltb c.args.unit (length (model_of p).codes) (omega arith)));
     }
 
-pub returns-in-err-code : goal.returns-in-err-code
-returns-in-err-code g c =
+pub returns-in_err-code : goal.returns-in_err-code
+returns-in_err-code g c =
     let p = c.args.self.now in
     let text = c.args.text.now in
-    let e = err_from_is_err_and c.from-residual.result c.from-residual.ensures.1 in
-    let code = c.in-err-code.ensures.cases in
+    let e = err_from_is_err_and c.from_residual.result c.from_residual.ensures.1 in
+    let code = c.in_err-code.ensures.cases in
     let size = length_codes p.unit_count p.units (omega arith) in
     rw (e.1, e.2, code.1)
     (record {
@@ -33,13 +33,13 @@ returns-in-err-code g c =
           (passes NoSuchUnit _ (lt-ltb c.args.unit (length (model_of p).codes) (omega arith)) ∙ fails NotACode _ code.0);
     })
 
-pub returns-then-is-borne : goal.returns-then-is-borne
-returns-then-is-borne g c =
+pub returns-then-is_borne : goal.returns-then-is_borne
+returns-then-is_borne g c =
     let p = c.args.self.now in
     let text = c.args.text.now in
-    let code = c.in-ok-code.ensures.cases in
+    let code = c.in_ok-code.ensures.cases in
     let size = length_codes p.unit_count p.units (omega arith) in
-    let borne = ap (λ t. borne_by_other c.args.unit t (model_of p).codes) (sym code.1) ∙ (sym c.is-borne.ensures ∙ c.if-is-borne.true) in
+    let borne = ap (λ t. borne_by_other c.args.unit t (model_of p).codes) (sym code.1) ∙ (sym c.is_borne.ensures ∙ c.if-is_borne.true) in
     record {
       sound = c.requires;
       called = refuses tt (recoded c.args.unit text (model_of p)) p
@@ -51,15 +51,15 @@ returns g c =
     let p = c.args.self.now in
     let n = p.unit_count in
     let text = c.args.text.now in
-    let code = c.in-ok-code.ensures.cases in
+    let code = c.in_ok-code.ensures.cases in
     let size = length_codes n p.units (omega arith) in
-    let free = ap (λ t. borne_by_other c.args.unit t (model_of p).codes) (sym code.1) ∙ (sym c.is-borne.ensures ∙ c.if-is-borne.false) in
-    let codes = ap (λ us. map code_of (take n us)) c.recode-at.ensures ∙ codes_set p.units n c.args.unit (record { code = c.in-ok-code.code }) text code.1 in
+    let free = ap (λ t. borne_by_other c.args.unit t (model_of p).codes) (sym code.1) ∙ (sym c.is_borne.ensures ∙ c.if-is_borne.false) in
+    let codes = ap (λ us. map code_of (take n us)) c.recode_at.ensures ∙ codes_set p.units n c.args.unit (record { code = c.in_ok-code.code }) text code.1 in
     record {
       sound = record {
         few = c.requires.few;
         short = c.requires.short;
-        table = ap length c.recode-at.ensures ∙ (length-set p.units c.args.unit (record { code = c.in-ok-code.code }) ∙ c.requires.table);
+        table = ap length c.recode_at.ensures ∙ (length-set p.units c.args.unit (record { code = c.in_ok-code.code }) ∙ c.requires.table);
         memory = c.requires.memory;
         distinct = subst Distinct (sym codes) (distinct_set text (model_of p).codes c.args.unit (omega arith) c.requires.distinct free);
         joins = c.requires.joins;

@@ -1,4 +1,4 @@
-use Rattle.std.proofs.Common.{◌≡◌, ◌-◌, sym, refl, ap, ◌∙◌, subst, arith}
+use Rattle.std.proofs.Common.{◌-◌, refl, ap, arith}
 use Rattle.refusals.specs.declared.Refusal.TheVariants.{NoSuchLink}
 use Rattle.plans.specs.declared.plan.Plan.{Plan}
 use Rattle.plans.specs.Model.{model_of, struck}
@@ -7,10 +7,10 @@ use Rattle.plans.proofs.Linking.{there, others}
 use Rattle.plans.proofs.Verdicts.{accepts, passes}
 use Rattle.plans.proofs.plan.Plan.strike.Goals as goal
 
-pub overflow-sub-self-2 : goal.overflow-sub-self-2
-overflow-sub-self-2 g c =
-    let was = c.in-ok-old.ensures.value in
-    let e = others g.W.Weight c.args.self.now c.requires c.args.link c.in-ok-old.old was.0 was.1 in
+pub overflow_sub-self-2 : goal.overflow_sub-self-2
+overflow_sub-self-2 g c =
+    let was = c.in_ok-old.ensures.value in
+    let e = others g.W.Weight c.args.self.now c.requires c.args.link c.in_ok-old.old was.0 was.1 in
     omega arith
 
 pub returns : goal.returns
@@ -18,11 +18,11 @@ returns g c =
     let p = c.args.self.now in
     let w = g.W.Weight in
     let k = c.args.link in
-    let old = c.in-ok-old.old in
-    let was = c.in-ok-old.ensures.value in
+    let old = c.in_ok-old.old in
+    let was = c.in_ok-old.ensures.value in
     let e = others w p c.requires k old was.0 was.1 in
-    let m = c.move-down.ensures in
-    let q : Plan g.row.W.Denot = record { units = c.move-down.new.self.units; unit_count = c.move-down.new.self.unit_count; links = c.move-down.new.self.links; link_count = c.move-down.new.self.link_count - 1; total = c.move-down.new.self.total - c.amount.result } in
+    let m = c.move_down.ensures in
+    let q : Plan g.row.W.Denot = record { units = c.move_down.new.self.units; unit_count = c.move_down.new.self.unit_count; links = c.move_down.new.self.links; link_count = c.move_down.new.self.link_count - 1; total = c.move_down.new.self.total - c.amount.result } in
     let same : SameUnits p q = record { units = m.units; count = m.unit_count } in
     let count = ap (λ n. n - 1) m.link_count in
     record {

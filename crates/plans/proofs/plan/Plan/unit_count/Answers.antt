@@ -1,4 +1,4 @@
-use Rattle.std.proofs.Common.{◌≡◌, sym, refl, ◌∙◌, arith}
+use Rattle.std.proofs.Common.{sym, refl, arith}
 use Rattle.plans.proofs.Bearing.{length_codes}
 use Rattle.plans.proofs.plan.Plan.unit_count.Goals as goal
 

@@ -1,13 +1,9 @@
-use Rattle.std.proofs.Common.{◌≡◌, ℕ, ◌<◌, ◌≤◌, true, false, ◌&&◌, eqb, ltb, leb, List, map, length, sym, refl, ap, ◌∙◌, subst, ap₂, ⊎_elim, arith}
-use Rattle.std.specs.List.{AllWithin}
+use Rattle.std.proofs.Common.{◌≡◌, ℕ, ◌≤◌, true, false, ◌&&◌, eqb, ltb, leb, List, length, ◌∙◌, ⊎_elim, arith}
 use Rattle.std.proofs.lemmas.Result.{err_from_is_err_and}
 use Rattle.std.proofs.lemmas.Bool.{lt-leb, le-leb, eq-eqb, ne_eqb, and_from, and_left, and_right, lt-ltb, le-ltb}
-use Rattle.cuts.specs.Divisions.{weight_of}
 use Rattle.refusals.specs.declared.Refusal.TheVariants.{NoDivision, BadMark}
-use Rattle.cuts.specs.Kinds.{kind_of}
-use Rattle.plans.specs.Divided.{are_marks, marks_count, side_of, valued}
-use Rattle.plans.specs.Model.{model_of, total_of}
-use Rattle.plans.specs.Sound.{Joins}
+use Rattle.plans.specs.Divided.{are_marks, marks_count}
+use Rattle.plans.specs.Model.{model_of}
 use Rattle.plans.proofs.Cutting.{count_within}
 use Rattle.plans.proofs.Keeping.{positive, strictly}
 use Rattle.plans.proofs.Linking.{unit_size}
@@ -32,12 +28,12 @@ returns-then-marks-units g c =
 two_marked : (n m : ℕ) (ms : List ℕ) → m ≡ n → 2 ≤ n → length ms ≡ n → are_marks ms ≡ true → (leb 2 m ≡ true) × ((eqb (length ms) m && are_marks ms) ≡ true)
 two_marked n m ms e two len good = (le-leb 2 m (omega arith), and_from _ _ (eq-eqb (length ms) m (omega arith)) good)
 
-pub returns-in-err-count : goal.returns-in-err-count
-returns-in-err-count g c =
+pub returns-in_err-count : goal.returns-in_err-count
+returns-in_err-count g c =
     let p = c.args.self.now in
     let ms = c.args.marks.now in
-    let e = err_from_is_err_and c.from-residual.result c.from-residual.ensures.1 in
-    let bad = c.in-err-count.ensures in
+    let e = err_from_is_err_and c.from_residual.result c.from_residual.ensures.1 in
+    let bad = c.in_err-count.ensures in
     let size = unit_size g.W.Weight p c.requires in
     rw (e.1, e.2, bad.1)
     (passes NoDivision _ (le-leb 2 (length (model_of p).codes) (omega arith)) ∙ fails BadMark _ (and_right _ (are_marks ms) bad.0))
@@ -48,7 +44,7 @@ returns-then-count-eq0 g c =
     let ms = c.args.marks.now in
     let n = length (model_of p).codes in
     let size = unit_size g.W.Weight p c.requires in
-    let counted = c.in-ok-count.ensures in
+    let counted = c.in_ok-count.ensures in
     let ok = two_marked p.unit_count n ms size (omega arith) (omega arith) counted.0 in
     let none-or-all : (ltb 0 (marks_count ms) && ltb (marks_count ms) n) ≡ false = ⊎_elim
     (λ z. and_left (ltb 0 (marks_count ms)) (ltb (marks_count ms) n) (le-ltb 0 (marks_count ms) (omega arith)))
@@ -62,9 +58,9 @@ returns g c =
     let ms = c.args.marks.now in
     let n = length (model_of p).codes in
     let size = unit_size g.W.Weight p c.requires in
-    let counted = c.in-ok-count.ensures in
+    let counted = c.in_ok-count.ensures in
     let most = count_within ms in
     let ok = two_marked p.unit_count n ms size (omega arith) (omega arith) counted.0 in (
-      passes NoDivision _ ok.0 ∙ (passes BadMark _ ok.1 ∙ passes NoDivision _ (and_from _ _ (lt-ltb 0 (marks_count ms) (positive c.in-ok-count.count counted.1 c.if-count-eq0.false)) (lt-ltb (marks_count ms) n (strictly (marks_count ms) n (omega arith) (λ e. c.if-count-units.false (omega arith)))))),
+      passes NoDivision _ ok.0 ∙ (passes BadMark _ ok.1 ∙ passes NoDivision _ (and_from _ _ (lt-ltb 0 (marks_count ms) (positive c.in_ok-count.count counted.1 c.if-count-eq0.false)) (lt-ltb (marks_count ms) n (strictly (marks_count ms) n (omega arith) (λ e. c.if-count-units.false (omega arith)))))),
       c.cut.ensures,
     )

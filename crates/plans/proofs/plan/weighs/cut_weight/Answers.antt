@@ -1,4 +1,4 @@
-use Rattle.std.proofs.Common.{◌≡◌, ℕ, ◌+◌, ◌∷◌, drop, sym, refl, ap, ◌∙◌, subst, ap₂, arith}
+use Rattle.std.proofs.Common.{ℕ, ◌+◌, ◌∷◌, drop, sym, ap, ◌∙◌, ap₂}
 use Rattle.std.proofs.lemmas.List.{drop_more}
 use Rattle.cuts.specs.Divisions.{differ}
 use Rattle.plans.specs.Divided.{side_of}
