@@ -6,7 +6,7 @@ use Rattle.cuts.specs.Records.{Lightest}
 use Rattle.tables.specs.Meaning.{Holds}
 use Rattle.rows.proofs.Units.{unit_fits, units_compared, lightest_one, lightest_next, lightest_same}
 use Rattle.rows.proofs.rows.lightest.Goals as goal
-use Rattle.rows.proofs.rows.lightest.Goals.{then-is-lighter, else-is-lighter}
+use Rattle.rows.proofs.rows.lightest.Goals.{then-is_lighter, else-is_lighter}
 
 pub loop-u-init : goal.loop-u-init
 loop-u-init g c =
@@ -22,9 +22,9 @@ loop-u-preserved g c =
     let fits = λ (ls : List (Link g.W.Weight.Value)) (h : Holds g.W.Weight n ls [] table). unit_fits g.W.Weight n ls table h met.laws met.bounded in
     let compared = λ (ls : List (Link g.W.Weight.Value)) (h : Holds g.W.Weight n ls [] table). units_compared g.W.Weight n ls table h c.loop-u.unit c.loop-u.u c.loop-u.invariant.0 c.loop-u-test.true in
     let P : ℕ → Type 0 = λ u. (u < n) × ((ls : List (Link g.W.Weight.Value)) → Holds g.W.Weight n ls [] table → Lightest K (c.loop-u.u + 1) ls u) in
-    elim c.if-is-lighter.branch [
-      | then-is-lighter w ↦ subst P (sym w.unit-is) (c.loop-u-test.true, λ ls h. lightest_next K met.laws n ls (fits ls h) c.loop-u.u c.loop-u.unit c.loop-u-test.true (c.loop-u.invariant.1 ls h) (compared ls h ∙ not-true _ (sym c.is-lighter.ensures ∙ w.if-is-lighter.true)))
-      | else-is-lighter w ↦ subst P (sym w.unit-is) (c.loop-u.invariant.0, λ ls h. lightest_same K met.laws n ls (fits ls h) c.loop-u.u c.loop-u.unit c.loop-u-test.true (c.loop-u.invariant.1 ls h) (compared ls h ∙ not-false _ (sym c.is-lighter.ensures ∙ w.if-is-lighter.false)))
+    elim c.if-is_lighter.branch [
+      | then-is_lighter w ↦ subst P (sym w.unit-is) (c.loop-u-test.true, λ ls h. lightest_next K met.laws n ls (fits ls h) c.loop-u.u c.loop-u.unit c.loop-u-test.true (c.loop-u.invariant.1 ls h) (compared ls h ∙ not-true _ (sym c.is_lighter.ensures ∙ w.if-is_lighter.true)))
+      | else-is_lighter w ↦ subst P (sym w.unit-is) (c.loop-u.invariant.0, λ ls h. lightest_same K met.laws n ls (fits ls h) c.loop-u.u c.loop-u.unit c.loop-u-test.true (c.loop-u.invariant.1 ls h) (compared ls h ∙ not-false _ (sym c.is_lighter.ensures ∙ w.if-is_lighter.false)))
     ]
 
 pub returns : goal.returns

@@ -16,8 +16,8 @@ loop-w-preserved-then-w-low g c = merging_skip g.W.Weight _ _ _ _ _ g.met.W.Weig
 pub loop-w-preserved-then-w-high : goal.loop-w-preserved-then-w-high
 loop-w-preserved-then-w-high g c = merging_skip g.W.Weight _ _ _ _ _ g.met.W.Weight.laws c.requires.less _ _ _ c.loop-w-test.true (inr (inr c.if-w-high.true)) c.loop-w.invariant
 
-pub merge-entry-both-requires : goal.merge-entry-both-requires
-merge-entry-both-requires g c =
+pub merge_entry-both-requires : goal.merge_entry-both-requires
+merge_entry-both-requires g c =
     let (ls, es, ex, sl, sh) = c.requires.explained in
     let units = ex.tracks.units in
     let few = c.args.groups.now.few in
@@ -34,13 +34,13 @@ merge-entry-both-requires g c =
 pub add-degree-requires : goal.add-degree-requires
 add-degree-requires g c =
     degree_fits g.W.Weight _ _ _ _ _ g.met.W.Weight.laws c.requires.less c.loop-w.table c.loop-w.w c.loop-w.degree
-    c.loop-w-test.true (sym c.stands.ensures ∙ c.if-not-stands.false) c.if-w-low.false c.if-w-high.false c.loop-w.invariant c.requires.explained _ c.merge-entry-both.ensures.value
+    c.loop-w-test.true (sym c.stands.ensures ∙ c.if-not-stands.false) c.if-w-low.false c.if-w-high.false c.loop-w.invariant c.requires.explained _ c.merge_entry-both.ensures.value
 
 pub loop-w-preserved : goal.loop-w-preserved
 loop-w-preserved g c =
-    subst (λ t. Merging g.W.Weight c.args.n c.args.low c.args.high c.args.table.now c.args.groups.now t (c.loop-w.w + 1) c.add-degree.result) (sym c.merge-entry-both.ensures.written)
+    subst (λ t. Merging g.W.Weight c.args.n c.args.low c.args.high c.args.table.now c.args.groups.now t (c.loop-w.w + 1) c.add-degree.result) (sym c.merge_entry-both.ensures.written)
     (merging_more g.W.Weight _ _ _ _ _ g.met.W.Weight.laws c.requires.less c.loop-w.table c.loop-w.w c.loop-w.degree
-    c.loop-w-test.true (sym c.stands.ensures ∙ c.if-not-stands.false) c.if-w-low.false c.if-w-high.false c.loop-w.invariant c.requires.explained _ c.merge-entry-both.ensures.value
+    c.loop-w-test.true (sym c.stands.ensures ∙ c.if-not-stands.false) c.if-w-low.false c.if-w-high.false c.loop-w.invariant c.requires.explained _ c.merge_entry-both.ensures.value
     _ (omega arith) c.add-degree.ensures)
 
 pub returns : goal.returns
@@ -52,6 +52,6 @@ returns g c =
     let all : c.loop-w.w ≡ n = omega arith in
     let done = subst (λ w. Merging W n low c.args.high c.args.table.now c.args.groups.now c.loop-w.table w c.loop-w.degree) all c.loop-w.invariant in
     record {
-      holds = λ ls es e ex sl sh el eh. subst (Holds W n ls (es ++ (e ∷ []))) (sym c.set-entry.ensures) (merging_all W n low _ _ _ laws c.requires.less c.loop-w.table c.loop-w.degree (omega arith) done ls es e ex sl sh el eh);
-      rest = ap (drop (n * n)) c.set-entry.ensures ∙ merging_rest W n low _ _ _ laws c.requires.less c.loop-w.table c.loop-w.degree c.requires.explained done;
+      holds = λ ls es e ex sl sh el eh. subst (Holds W n ls (es ++ (e ∷ []))) (sym c.set_entry.ensures) (merging_all W n low _ _ _ laws c.requires.less c.loop-w.table c.loop-w.degree (omega arith) done ls es e ex sl sh el eh);
+      rest = ap (drop (n * n)) c.set_entry.ensures ∙ merging_rest W n low _ _ _ laws c.requires.less c.loop-w.table c.loop-w.degree c.requires.explained done;
     }
