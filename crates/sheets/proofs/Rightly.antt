@@ -1,10 +1,8 @@
 -- The sheet of a plan within the rules has no fault.
-use Rattle.std.proofs.Common.{◌≡◌, ℕ, zero, suc, ◌+◌, ◌*◌, ◌^◌, ◌<◌, ◌≤◌, Bool, true, false, cond, not, ◌&&◌, ◌||◌, eqb, ltb, leb, List, [], ◌∷◌, ◌++◌, length, get_or, take, drop, Some, None, Option, sym, refl, ap, ◌∙◌, subst, ap₂, ⊎_elim, add-zero, suc-mul, add-one, arith}
-use Rattle.std.specs.List.{AllByRecursion as All}
+use Rattle.std.proofs.Common.{◌≡◌, ℕ, zero, suc, ◌+◌, ◌*◌, ◌^◌, ◌<◌, ◌≤◌, Bool, true, false, cond, not, eqb, ltb, leb, List, [], ◌∷◌, length, get_or, take, drop, None, sym, refl, ap, ◌∙◌, subst, ap₂, ⊎_elim, add-zero, suc-mul, add-one, arith}
 use Rattle.std.proofs.ByRecursion.{All-append, All-get_or}
 use Rattle.std.proofs.lemmas.List.{get_or-append-add, get_or-take, length-take-le, take_more, take-append-drop}
-use Rattle.std.proofs.lemmas.Bool.{cond-true, cases_Bool, both_ways, and_parts, or_from, and_right, le-leb, lt-ltb, eq-eqb, ne_eqb}
-use Rattle.refusals.specs.declared.Refusal.{Refusal}
+use Rattle.std.proofs.lemmas.Bool.{cond-true, cases_Bool, or_from, and_right, le-leb, lt-ltb, eq-eqb, ne_eqb}
 use Rattle.refusals.specs.declared.Refusal.TheVariants.{NotACode, CodeTaken, NoSuchUnit, SelfLink, NoWeight, OverLimit, BadMark, TrailingBytes, Full, OtherKind}
 use Rattle.weights.specs.declared.weight.Weight.{Ghosts}
 use Rattle.weights.specs.Laws.{Exact, limit}

@@ -1,19 +1,19 @@
 -- The bytes of a plan's sheet, seen as fields.
-use Rattle.std.proofs.Common.{◌≡◌, ℕ, zero, suc, ◌+◌, ◌-◌, ◌*◌, ◌/◌, ◌%◌, ◌^◌, ◌<◌, ◌≤◌, Bool, true, false, cond, eqb, ◌⊎◌, List, [], ◌∷◌, ◌++◌, length, get_or, take, drop, sym, refl, ap, ◌∙◌, subst, ap₂, ⊎_elim, add-zero, suc-mul, add-mul, add_comm, one-mul, zero-mul, add-one, arith}
+use Rattle.std.proofs.Common.{◌≡◌, ℕ, zero, suc, ◌+◌, ◌-◌, ◌*◌, ◌/◌, ◌%◌, ◌^◌, ◌<◌, ◌≤◌, true, eqb, ◌⊎◌, List, [], ◌∷◌, ◌++◌, length, get_or, take, drop, sym, refl, ap, ◌∙◌, ap₂, ⊎_elim, suc-mul, add_comm, zero-mul, add-one, arith}
 use native.Mathlib.Nat.{div-div-eq-div-mul}
 use Rattle.std.specs.List.{flat_map, AllByRecursion as All}
 use Rattle.std.proofs.ByRecursion.{All-get_or}
-use Rattle.std.proofs.lemmas.List.{append_assoc, take_at, drop_at, take_more, take_all, drop-drop, get_or-take, get_or-drop, get_or_at, get_or_append_left, get_or-append_right, length-append, length_push}
+use Rattle.std.proofs.lemmas.List.{append_assoc, take_at, drop_at, take_more, drop-drop, get_or-take, get_or-drop, get_or_at, get_or_append_left, get_or-append_right, length-append, length_push}
 use Rattle.std.proofs.lemmas.Bool.{cond-true, cond-false, eq-eqb, ne_eqb, cases_lt}
 use Rattle.weights.specs.declared.weight.Weight.{Ghosts}
-use Rattle.codes.specs.Code.{Code, is_code}
+use Rattle.codes.specs.Code.{is_code}
 use Rattle.codes.proofs.Decided.{decides_code}
 use Rattle.plans.specs.declared.plan.Link.{Link}
 use Rattle.plans.specs.Model.{Model}
 use Rattle.sheets.specs.declared.issue.Issue.{Issue}
 use Rattle.sheets.specs.declared.issue.Issue.TheVariants.{First, Second}
-use Rattle.sheets.specs.Fields.{byte_at, bytes_at, two_at, four_at, issue_in, units_in, links_in, code_place, text_in, text_of, texts_in, link_place}
-use Rattle.sheets.specs.Format.{Valid, code_field, size_of_code, four, fours, issue_number, link_bytes, link_size, sheet_of}
+use Rattle.sheets.specs.Fields.{byte_at, bytes_at, issue_in, links_in, code_place, text_in, text_of, texts_in, link_place}
+use Rattle.sheets.specs.Format.{Valid, code_field, size_of_code, four, fours, link_bytes, link_size, sheet_of}
 
 -- a byte of a field
 pub byte_in : (bs field : List ℕ) (at n i : ℕ) → bytes_at bs at n ≡ field → i < n → byte_at bs (at + i) ≡ get_or field i 0

@@ -1,5 +1,5 @@
 -- What is wrong with a field, and the first fault of a sheet in the order of its bytes.
-use Rattle.std.specs.Prelude.{◌≡◌, ℕ, suc, ◌+◌, true, not, ◌||◌, List, [], ◌∷◌, ◌++◌, length, Some, None, Option, ◌==◌, nat_le, nat_lt}
+use Rattle.std.specs.Prelude.{◌≡◌, ℕ, ◌+◌, not, ◌||◌, List, ◌∷◌, ◌++◌, length, Some, None, Option, ◌==◌, nat_le, nat_lt}
 use Rattle.std.specs.List.{AllByRecursion as All}
 use Rattle.refusals.specs.declared.Refusal.{Refusal}
 use Rattle.refusals.specs.declared.Refusal.TheVariants.{NotASheet, UnknownIssue, OtherKind, Truncated, TrailingBytes, Full, NotACode, CodeTaken, NoSuchUnit, SelfLink, NoWeight, OverLimit, BadMark}

@@ -1,6 +1,6 @@
 -- The bytes of a sheet as fields, each by the index of its first byte. Every function here looks at bytes by their
 -- index; a byte past the end counts as 0, and what it would say matters to no fault, as an earlier field is not whole.
-use Rattle.std.specs.Prelude.{ℕ, zero, suc, ◌+◌, ◌*◌, true, cond, List, [], ◌∷◌, ◌++◌, length, take, drop, ◌==◌, slice_index}
+use Rattle.std.specs.Prelude.{ℕ, zero, suc, ◌+◌, ◌*◌, cond, List, [], ◌∷◌, ◌++◌, take, drop, ◌==◌, slice_index}
 use Rattle.weights.specs.declared.weight.Weight.{Ghosts}
 use Rattle.sheets.specs.declared.issue.Issue.{Issue}
 use Rattle.sheets.specs.declared.issue.Issue.TheVariants.{First, Second}
