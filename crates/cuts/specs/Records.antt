@@ -16,7 +16,7 @@ pub record Point : Type 0 where
   pub best : ℕ → Bool
   pub scans : ℕ
 
-abbrev pub merger : ℕ → ℕ → Ground → ℕ → Entry
+abbrev pub merger : ℕ → ℕ → (ground : Ground) → ℕ → Entry
 merger a b why scan = record { low = min a b; high = max a b; ground = why; scan = scan }
 
 module _ {V : Type 0} (K : Kind V) (n : ℕ) (ls : List (Link V)) where

@@ -36,7 +36,7 @@ on a b w = record { first = a; second = b; in_service = true; weight = w }
 abbrev pub off : {V : Type 0} → ℕ → ℕ → V → Link V
 off a b w = record { first = a; second = b; in_service = false; weight = w }
 
-abbrev pub entry : ℕ → ℕ → Ground → ℕ → Entry
+abbrev pub entry : ℕ → ℕ → (ground : Ground) → ℕ → Entry
 entry low high why scan = record { low = low; high = high; ground = why; scan = scan }
 
 abbrev pub case : {V : Type 0} → ℕ → List (Link V) → V → List ℕ → List Entry → ℕ → Worked V
