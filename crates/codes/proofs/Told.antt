@@ -1,5 +1,5 @@
 -- A code is told by its characters: two with the same ones are one value.
-use Rattle.std.proofs.Common.{◌≡◌, ℕ, ◌-◌, ◌≤◌, true, List, ◌++◌, length, take, drop, replicate, sym, ap, ◌∙◌, arith, take-append-drop}
+use Rattle.std.proofs.Common.{◌≡◌, ◌-◌, ◌≤◌, true, ◌++◌, length, take, drop, replicate, sym, ap, ◌∙◌, arith, take-append-drop}
 use mathlib.Core.Bool.{Bool-set}
 use mathlib.Core.List.{is_set}
 use mathlib.Core.HLevel.{is_prop→PathP}

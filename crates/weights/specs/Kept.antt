@@ -1,6 +1,6 @@
 -- That the two kinds of weight keep the laws.
-use Rattle.std.specs.Prelude.{◌≡◌, ℕ, zero, suc, ◌<◌, ◌≤◌, refl}
-use Rattle.std.proofs.Common.{ap, arith}
+use Rattle.std.specs.Prelude.{◌≡◌, ℕ, zero, suc, ◌<◌, refl}
+use Rattle.std.proofs.Common.{arith}
 use Rattle.std.proofs.lemmas.Bool.Decides.{nat_tests}
 use Rattle.weights.specs.Laws.{Laws, Exact}
 use Rattle.weights.specs.Kinds.{plain_plus, plain_le, plain_size, plain_of, plain_nth}
