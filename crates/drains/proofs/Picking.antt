@@ -1,14 +1,14 @@
 -- What a look through the groups keeps: which entry is to be taken among those so far.
-use Rattle.std.proofs.Common.{◌≡◌, ℕ, zero, suc, ◌+◌, ◌<◌, ◌≤◌, Bool, true, false, cond, eqb, ltb, ◌⊎◌, List, length, get_or, set, replicate, Some, None, Option, sym, refl, ap, ◌∙◌, ⊎_elim, arith}
+use Rattle.std.proofs.Common.{◌≡◌, ℕ, zero, suc, ◌+◌, ◌<◌, ◌≤◌, Bool, true, false, cond, ltb, List, length, set, replicate, Some, None, Option, sym, refl, ap, ◌∙◌, ⊎_elim, arith}
 use Rattle.std.proofs.lemmas.List.{get_or_past, get_or-set_same, get_or-set_other}
 use Rattle.std.proofs.lemmas.Map.{update_here, update_apart}
 use Rattle.std.proofs.lemmas.Bool.{cases_lt, cases_eq, cond-true, cond-false, lt-ltb, le-ltb, both_ways}
-use Rattle.queues.specs.Keys.{Empty, Becomes, Heaviest}
+use Rattle.queues.specs.Keys.{Becomes}
 use Rattle.queues.specs.Slots.{Reached}
 use Rattle.queues.proofs.Orders.{Ordered, le_self, le_flip, le_above}
 use Rattle.drains.specs.declared.tied.Tie.{Tie}
 use Rattle.drains.specs.declared.tied.Tie.TheVariants.{Lowest, Highest}
-use Rattle.drains.specs.Ties.{keyed, Before, Preferred, Picked, prefers}
+use Rattle.drains.specs.Ties.{keyed, Before, Picked, prefers}
 
 pub keyed_none : {W : Type 0} (n g : ℕ) → keyed {W = W} (replicate n None) g ≡ None
 keyed_none zero g = refl

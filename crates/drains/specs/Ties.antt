@@ -1,5 +1,7 @@
 -- What a queue means that holds a key for each group that waits, and which of its entries it takes.
-use Rattle.std.specs.Prelude.{◌≡◌, ℕ, ◌≤◌, Bool, true, false, cond, List, Some, None, Option, slice_index_or}
+use Rattle.std.specs.Prelude.{◌≡◌, ℕ, ◌≤◌, Bool, true, false, cond, List, length, Some, None, Option, slice_index_or}
+use Rattle.std.proofs.Common.{arith}
+use Rattle.std.proofs.lemmas.List.{get_or_past}
 use Rattle.queues.specs.Keys.{Empty, Heaviest}
 use Rattle.drains.specs.declared.tied.Tie.{Tie}
 use Rattle.drains.specs.declared.tied.Tie.TheVariants.{Lowest, Highest}
@@ -7,6 +9,10 @@ use Rattle.drains.specs.declared.tied.Tie.TheVariants.{Lowest, Highest}
 -- the key of a group
 abbrev pub keyed : {W : Type 0} → List (Option W) → ℕ → Option W
 keyed keys g = slice_index_or keys g None
+
+-- no group past the last one waits
+pub keyed_within : {W : Type 0} (keys : List (Option W)) → length keys ≡ 64 → (g : ℕ) → 64 ≤ g → keyed keys g ≡ None
+keyed_within keys size g far = get_or_past keys g None (omega arith)
 
 -- the group g comes before h, or is h
 abbrev pub Before : Tie → ℕ → ℕ → Type 0

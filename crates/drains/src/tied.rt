@@ -2,7 +2,7 @@
 ghost use Rattle.std.specs.Prelude.{◌≡◌, length};
 ghost use Rattle.queues.specs.Keys.{Empty};
 ghost use Rattle.queues.specs.Slots.{Within, Reached};
-ghost use Rattle.drains.specs.Ties.{keyed, Picked, prefers};
+ghost use Rattle.drains.specs.Ties.{keyed, keyed_within, Picked, prefers};
 
 use queues::queue::{GROUPS, PriorityQueue};
 use refusals::Refusal;
@@ -76,6 +76,8 @@ impl<W: Weight> PriorityQueue for TiedQueue<W> {
 
     // all its memory is its own
     ghost spares = { λ _ _. Unit {0} };
+
+    ghost within = { λ q s g h. keyed_within q.keys s g h };
 
     fn clear(&mut self) {
         self.keys = no_keys();

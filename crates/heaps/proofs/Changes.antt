@@ -1,9 +1,9 @@
 -- What a swap, a new entry, a new key and a removal do to table, entries and keys.
-use Rattle.std.proofs.Common.{◌≡◌, ℕ, zero, suc, ◌+◌, ◌-◌, ◌<◌, ◌≤◌, Bool, true, false, cond, eqb, ltb, ◌⊎◌, Some, None, Option, sym, refl, ap, ◌∙◌, inl, inr, ⊎_elim, arith}
+use Rattle.std.proofs.Common.{◌≡◌, ℕ, ◌+◌, ◌<◌, ◌≤◌, cond, eqb, Some, None, Option, sym, refl, ap, ◌∙◌, ⊎_elim, arith}
 use Rattle.std.proofs.lemmas.Bool.{cases_eq, cases_lt, cond-true, cond-false, eq-eqb, ne_eqb}
 use Rattle.std.specs.Map.{update}
 use Rattle.std.proofs.lemmas.Map.{update_here, update_apart}
-use Rattle.queues.specs.Keys.{Unchanged, Becomes}
+use Rattle.queues.specs.Keys.{Becomes}
 use Rattle.heaps.specs.declared.entry.HeapEntry.{HeapEntry}
 use Rattle.heaps.specs.Tree.{Swapped}
 use Rattle.heaps.specs.Heaped.{key_under, Here, Agrees}

@@ -1,5 +1,5 @@
 -- The entry at the top of a heap is a heaviest one, and of these that of the lowest group.
-use Rattle.std.proofs.Common.{◌≡◌, ℕ, ◌<◌, Bool, true, false, ◌⊎◌, Some, None, Option, sym, refl, ap, ◌∙◌, ⊎_elim, arith}
+use Rattle.std.proofs.Common.{◌≡◌, ℕ, ◌<◌, Bool, false, Some, None, Option, refl, ⊎_elim, arith}
 use Rattle.queues.specs.Keys.{Heaviest}
 use Rattle.queues.proofs.Orders.{Ordered}
 use Rattle.heaps.specs.declared.entry.HeapEntry.{HeapEntry}

@@ -1,5 +1,5 @@
 -- A write to the table.
-use Rattle.std.proofs.Common.{◌≡◌, ℕ, ◌<◌, cond, eqb, List, length, get_or, set, sym, refl, ap, ◌∙◌, ⊎_elim, get_or-set_other, get_or-set_same}
+use Rattle.std.proofs.Common.{◌≡◌, ℕ, ◌<◌, cond, eqb, List, length, get_or, set, sym, refl, ◌∙◌, ⊎_elim, get_or-set_other, get_or-set_same}
 use Rattle.std.proofs.lemmas.Bool.{cases_eq, cond-true, cond-false, eq-eqb, ne_eqb}
 
 pub get_d_set : (xs : List ℕ) (i v d k : ℕ) → i < length xs → get_or (set xs i v) k d ≡ cond (eqb k i) v (get_or xs k d)

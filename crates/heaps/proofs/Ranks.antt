@@ -1,5 +1,5 @@
 -- The order of entries, heavier first and then the lower group, is one: what need not come before what need not come before a third need not come before that.
-use Rattle.std.proofs.Common.{◌≡◌, ℕ, ◌+◌, ◌<◌, ◌≤◌, Bool, true, false, cond, ltb, ◌⊎◌, sym, refl, ap, ◌∙◌, ⊎_elim, arith}
+use Rattle.std.proofs.Common.{◌≡◌, ℕ, ◌+◌, ◌<◌, ◌≤◌, Bool, true, false, cond, ltb, refl, ⊎_elim, arith}
 use Rattle.std.proofs.lemmas.Bool.{ltb-true, ltb-false, le-ltb, both_ways, cases_Bool}
 use Rattle.weights.specs.Laws.{Laws, limit}
 use Rattle.queues.proofs.Orders.{Ordered}

@@ -1,14 +1,12 @@
 -- What the table and the entries say of keys, and what a change of both keeps.
-use Rattle.std.proofs.Common.{◌≡◌, ℕ, zero, suc, ◌+◌, ◌-◌, ◌<◌, ◌≤◌, Bool, true, false, cond, eqb, ltb, ◌⊎◌, Some, None, Option, sym, refl, ap, ◌∙◌, inl, inr, ⊎_elim, arith}
+use Rattle.std.proofs.Common.{◌≡◌, ℕ, ◌<◌, ◌≤◌, eqb, ltb, ◌⊎◌, Some, None, Option, sym, refl, ap, ◌∙◌, inl, inr, ⊎_elim, arith}
 use Rattle.std.proofs.lemmas.Bool.{cases_eq, cases_lt, cond-true, cond-false, eq-eqb, ne_eqb, lt-ltb, le-ltb}
-use Rattle.std.specs.Map.{update}
 use Rattle.std.proofs.lemmas.Map.{update_here, update_apart}
 use Rattle.queues.specs.Keys.{Unchanged, Becomes}
 use Rattle.heaps.specs.declared.entry.HeapEntry.{HeapEntry}
 use Rattle.heaps.specs.Tree.{Swapped}
-use Rattle.heaps.specs.Heaped.{key_for, key_under, Here, Agrees}
+use Rattle.heaps.specs.Heaped.{key_for, key_under, Agrees}
 use Rattle.heaps.proofs.Order.{one}
-use Rattle.heaps.proofs.Pigeons.{pigeons}
 
 pub clash : {W P : Type 0} {o : Option W} {v : W} → o ≡ Some v → o ≡ None → P
 clash is e = let z : ◌≡◌ {A = ℕ} 0 1 = cc in absurd (omega arith)

@@ -1,6 +1,8 @@
 -- What the entries of a heap and the table of their places mean.
 use Rattle.std.specs.Prelude.{◌≡◌, ℕ, ◌<◌, ◌≤◌, Bool, true, cond, List, length, Some, None, Option, ◌==◌, nat_lt, slice_index}
 use Rattle.std.specs.List.{slice_get}
+use Rattle.std.proofs.Common.{eqb, ap, ◌∙◌, ⊎_elim, arith}
+use Rattle.std.proofs.lemmas.Bool.{cases_lt, cond-true, cond-false, lt-ltb, le-ltb, ne_eqb}
 use Rattle.heaps.specs.declared.entry.HeapEntry.{HeapEntry}
 use Rattle.heaps.specs.declared.heap.HeapQueue.{HeapQueue}
 use Rattle.queues.specs.Keys.{Empty, Heaviest}
@@ -44,6 +46,20 @@ pub record Kept {W : Type 0} (q : HeapQueue W) : Type 0 where
   pub room : 64 ≤ length q.entries.now
   pub table : length q.places ≡ 64
   pub agrees : Agrees (standing q) (placed q.places) q.count
+
+-- no group past the last one waits
+pub key_within : {W : Type 0} (q : HeapQueue W) (g : ℕ) → Kept q → 64 ≤ g → heap_key q g ≡ None
+key_within q g kept far =
+    let p = placed q.places g in
+    ⊎_elim
+    (λ (lt : p < q.count).
+    let h = kept.agrees.here p lt in
+    let low = h.group in
+    cond-true (nat_lt p q.count) (key_for (standing q p) g) None (lt-ltb p q.count lt)
+    ∙ ap (λ o. key_for o g) h.is
+    ∙ cond-false (eqb h.entry.group g) (Some h.entry.key) None (ne_eqb h.entry.group g (λ e. omega arith)))
+    (λ (m : q.count ≤ p). cond-false (nat_lt p q.count) (key_for (standing q p) g) None (le-ltb p q.count m))
+    (cases_lt p q.count)
 
 -- what makes a heap sound: that, and the heap's order
 pub record Heaped {W : Type 0} (le : W → W → Bool) (q : HeapQueue W) : Type 0 where

@@ -1,5 +1,5 @@
 -- The order of a binary heap: a place p has the children 2p + 1 and 2p + 2. `first b a` says that b has to come before a.
-use Rattle.std.specs.Prelude.{◌≡◌, ℕ, ◌+◌, ◌*◌, ◌<◌, ◌≤◌, Bool, true, false, Some, None, Option, ◌≢◌}
+use Rattle.std.specs.Prelude.{◌≡◌, ℕ, ◌+◌, ◌*◌, ◌<◌, ◌≤◌, Bool, false, Some, None, Option, ◌≢◌}
 
 abbrev pub Child : ℕ → ℕ → Type 0
 Child p c = (2 * p + 1 ≤ c) × (c ≤ 2 * p + 2)

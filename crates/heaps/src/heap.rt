@@ -4,7 +4,7 @@ ghost use Rattle.queues.specs.Keys.{Empty, Unchanged, Becomes};
 ghost use Rattle.queues.specs.Memory.{Enough, Unsettled};
 ghost use Rattle.heaps.specs.Tree.{Rising, Sinking, Swapped, Eldest};
 ghost use Rattle.heaps.specs.Entries.{before as ahead};
-ghost use Rattle.heaps.specs.Heaped.{placed, standing, heap_key, Kept, Heaped, Finds, Top};
+ghost use Rattle.heaps.specs.Heaped.{placed, standing, heap_key, key_within, Kept, Heaped, Finds, Top};
 
 use crate::entry::{HeapEntry, before, read};
 use queues::queue::{GROUPS, PriorityQueue};
@@ -83,7 +83,7 @@ impl<'a, W: Weight> HeapQueue<'a, W> {
 
     // Writes an entry to a place, and the place to the table.
     fn write(&mut self, at: usize, entry: HeapEntry<W>)
-        requires room { (at < 64) × (64 ≤ length self.old.entries.now) }
+        requires room { at < length self.old.entries.now }
         requires table { length self.old.places ≡ 64 }
         requires group { entry.group < 64 }
         ensures length { length self.new.entries.now ≡ length self.old.entries.now }
@@ -91,7 +91,7 @@ impl<'a, W: Weight> HeapQueue<'a, W> {
         ensures count { self.new.count ≡ self.old.count }
         ensures entry { Becomes (standing self.old) (standing self.new) at (Some entry) }
         ensures place { (g : ℕ) → placed self.new.places g ≡ (if nat_eq g entry.group then at else placed self.old.places g) }
-        ensures memory { Unsettled 64 self.old.entries.now self.new.entries.now }
+        ensures memory { at < 64 → Unsettled 64 self.old.entries.now self.new.entries.now }
     {
         self.places[entry.group] = at;
         self.entries[at] = entry;
@@ -234,6 +234,8 @@ impl<'a, W: Weight> PriorityQueue for HeapQueue<'a, W> {
     ghost key = { heap_key };
 
     ghost spares = { λ p q. Unsettled 64 p.entries.now q.entries.now };
+
+    ghost within = { λ q s g h. key_within q g s.kept h };
 
     fn clear(&mut self) {
         self.count = 0;

@@ -1,6 +1,6 @@
-use Rattle.std.proofs.Common.{◌≡◌, ℕ, ◌+◌, ◌<◌, ◌≤◌, length, take, drop, sym, refl, ap, ◌∙◌, ⊎_elim, arith, length-set, rules}
+use Rattle.std.proofs.Common.{◌≡◌, ◌+◌, ◌<◌, length, take, refl, ◌∙◌, arith, length-set, rules}
 use Rattle.drains.proofs.Counts.{waiting_to, waiting_most, waiting_less}
-use Rattle.drains.proofs.Draining.{Draining, drain_none, drain_set, drain_all, drop_more_set}
+use Rattle.drains.proofs.Draining.{drain_none, drain_set, drain_all, drop_more_set}
 use Rattle.drains.proofs.drain.drain.Goals as goal
 
 -- one entry fewer waits
@@ -25,8 +25,8 @@ place g c = let less = fewer g c in let inv = c.loop-entry.invariant in omega ar
 pub bounds-out-count : goal.bounds-out-count
 bounds-out-count g c = place g c
 
-pub offset-bounds-out-count : goal.offset-bounds-out-count
-offset-bounds-out-count g c = let h : c.loop-entry.count < length c.loop-entry.out = place g c in search rules
+pub offset_bounds-out-count : goal.offset_bounds-out-count
+offset_bounds-out-count g c = let h : c.loop-entry.count < length c.loop-entry.out = place g c in search rules
 
 pub loop-entry-smaller : goal.loop-entry-smaller
 loop-entry-smaller g c = let less = fewer g c in omega arith
@@ -53,7 +53,7 @@ returns g c =
     let q = g.Q.PriorityQueue in
     let w = g.W.Weight in
     let inv = c.loop-entry.invariant in
-    let none = c.in-default.ensures.taken in
+    let none = c.in_default.ensures.taken in
     record {
       sound = c.take.ensures.sound;
       emptied = none.1;

@@ -1,4 +1,3 @@
-use Rattle.std.proofs.Common.{◌≡◌}
 use Rattle.heaps.specs.Heaped.{placed, standing}
 use Rattle.heaps.proofs.Tables.{key_past, key_other, key_in}
 use Rattle.heaps.proofs.Changes.{key_far}

@@ -1,4 +1,4 @@
-use Rattle.std.proofs.Common.{◌≡◌, ◌+◌, ◌-◌, None, ◌∙◌, arith}
+use Rattle.std.proofs.Common.{◌-◌, None, ◌∙◌, arith}
 use Rattle.queues.proofs.Slotted.{update_ap}
 use Rattle.heaps.specs.Entries.{before}
 use Rattle.heaps.specs.Heaped.{placed, standing, heap_key}
@@ -6,8 +6,8 @@ use Rattle.heaps.proofs.Order.{sinking_last}
 use Rattle.heaps.proofs.Changes.{pop_agrees, pop_keys}
 use Rattle.heaps.proofs.heap.HeapQueue.pop.Goals as goal
 
-pub sift-down-requires : goal.sift-down-requires
-sift-down-requires g c =
+pub sift_down-requires : goal.sift_down-requires
+sift_down-requires g c =
     let w = g.W.Weight in
     let q = c.args.self.now in
     let after = c.swap.new.self in
@@ -32,10 +32,10 @@ returns g c =
     let count = swapped.count in
     let some = c.requires.some in
     record {
-      sound = c.sift-down.ensures.sound;
+      sound = c.sift_down.ensures.sound;
       keys = λ e top k.
-          c.sift-down.ensures.keys k
+          c.sift_down.ensures.keys k
           ∙ pop_keys (standing after) (placed after.places) after.count (q.count - 1) swapped.kept.agrees (omega arith) e (swapped.swapped.right ∙ top) k
           ∙ update_ap (heap_key after) (heap_key q) e.group k None swapped.keys;
-      memory = λ place far. c.sift-down.ensures.memory place far ∙ swapped.memory place far;
+      memory = λ place far. c.sift_down.ensures.memory place far ∙ swapped.memory place far;
     }

@@ -1,4 +1,4 @@
-use Rattle.std.proofs.Common.{◌≡◌, ◌∙◌, arith}
+use Rattle.std.proofs.Common.{◌∙◌, arith}
 use Rattle.heaps.specs.Entries.{before}
 use Rattle.heaps.specs.Heaped.{placed, standing}
 use Rattle.heaps.proofs.Order.{rising_new}
@@ -11,10 +11,10 @@ write-requires g c =
     let kept = c.requires.sound.kept in
     let room = kept.room in
     let left = room_left (standing q) (placed q.places) q.count c.args.entry kept.agrees c.requires.group c.requires.free in
-    record { room = (omega arith, room); table = kept.table; group = c.requires.group }
+    record { room = omega arith; table = kept.table; group = c.requires.group }
 
-pub sift-up-requires : goal.sift-up-requires
-sift-up-requires g c =
+pub sift_up-requires : goal.sift_up-requires
+sift_up-requires g c =
     let w = g.W.Weight in
     let q = c.args.self.now in
     let after = c.write.new.self in
@@ -37,8 +37,10 @@ returns g c =
     let q = c.args.self.now in
     let after = c.write.new.self in
     let wrote = c.write.ensures in
+    let kept = c.requires.sound.kept in
+    let left = room_left (standing q) (placed q.places) q.count c.args.entry kept.agrees c.requires.group c.requires.free in
     record {
-      sound = c.sift-up.ensures.sound;
-      keys = λ k. c.sift-up.ensures.keys k ∙ push_keys (standing q) (standing after) (placed q.places) (placed after.places) q.count c.args.entry c.requires.sound.kept.agrees c.requires.group c.requires.free wrote.entry wrote.place k;
-      memory = λ place far. c.sift-up.ensures.memory place far ∙ wrote.memory place far;
+      sound = c.sift_up.ensures.sound;
+      keys = λ k. c.sift_up.ensures.keys k ∙ push_keys (standing q) (standing after) (placed q.places) (placed after.places) q.count c.args.entry c.requires.sound.kept.agrees c.requires.group c.requires.free wrote.entry wrote.place k;
+      memory = λ place far. c.sift_up.ensures.memory place far ∙ wrote.memory left place far;
     }

@@ -1,4 +1,4 @@
-use Rattle.std.proofs.Common.{◌≡◌, sym, ◌∙◌, arith}
+use Rattle.std.proofs.Common.{sym, ◌∙◌, arith}
 use Rattle.queues.proofs.Orders.{ordered}
 use Rattle.heaps.specs.Entries.{before}
 use Rattle.heaps.specs.Heaped.{placed, standing}
@@ -14,10 +14,10 @@ write-requires g c =
     let fits = kept.agrees.fits in
     let lt = c.requires.within in
     let old = kept.agrees.here c.args.at lt in
-    record { room = (omega arith, room); table = kept.table; group = rw (c.requires.heavier old.entry old.is).0 old.group }
+    record { room = omega arith; table = kept.table; group = rw (c.requires.heavier old.entry old.is).0 old.group }
 
-pub sift-up-requires : goal.sift-up-requires
-sift-up-requires g c =
+pub sift_up-requires : goal.sift_up-requires
+sift_up-requires g c =
     let w = g.W.Weight in
     let laws = ordered w.value g.met.W.Weight.laws g.met.W.Weight.bounded in
     let q = c.args.self.now in
@@ -47,12 +47,13 @@ returns g c =
     let wrote = c.write.ensures in
     let count = wrote.count in
     let kept = c.requires.sound.kept in
+    let fits = kept.agrees.fits in
     let lt = c.requires.within in
     let old = kept.agrees.here c.args.at lt in
     let own = (c.requires.heavier old.entry old.is).0 in
     let keys = raise_keys (standing q) (standing after) (placed q.places) (placed after.places) q.count c.args.at old.entry c.args.entry kept.agrees lt old.is own wrote.entry wrote.place in
     record {
-      sound = c.sift-up.ensures.sound;
-      keys = λ k. c.sift-up.ensures.keys k ∙ rw (count, own) (keys k);
-      memory = λ place far. c.sift-up.ensures.memory place far ∙ wrote.memory place far;
+      sound = c.sift_up.ensures.sound;
+      keys = λ k. c.sift_up.ensures.keys k ∙ rw (count, own) (keys k);
+      memory = λ place far. c.sift_up.ensures.memory place far ∙ wrote.memory (omega arith) place far;
     }

@@ -1,13 +1,13 @@
-use Rattle.std.proofs.Common.{◌≡◌, sym, ◌∙◌, arith}
+use Rattle.std.proofs.Common.{sym, ◌∙◌}
 use Rattle.queues.proofs.Orders.{ordered}
 use Rattle.heaps.specs.Entries.{before}
 use Rattle.heaps.specs.Heaped.{standing}
 use Rattle.heaps.proofs.Ranks.{entry_ranks}
-use Rattle.heaps.proofs.Order.{sink, sink_end}
+use Rattle.heaps.proofs.Order.{sink_end}
 use Rattle.heaps.proofs.heap.HeapQueue.sift_down.Goals as goal
 
-pub returns-then-not-is-before : goal.returns-then-not-is-before
-returns-then-not-is-before g c =
+pub returns-then-not-is_before : goal.returns-then-not-is_before
+returns-then-not-is_before g c =
     let w = g.W.Weight in
     let ranks = entry_ranks (λ a b. w.le (w.value a) (w.value b)) (ordered w.value g.met.W.Weight.laws g.met.W.Weight.bounded) in
     let q = c.loop-child.self in
@@ -18,14 +18,14 @@ returns-then-not-is-before g c =
       sound = record {
         kept = inv.0;
         order = sink_end (before (λ a b. w.le (w.value a) (w.value b))) ranks (standing q) q.count c.loop-child.i inv.2
-            (λ k child lt a b ia kb. ranks.chain b x.entry a (eldest.2 k child lt x.entry b x.is kb) (sym (c.is-before.ensures x.entry a x.is ia) ∙ c.if-not-is-before.true));
+            (λ k child lt a b ia kb. ranks.chain b x.entry a (eldest.2 k child lt x.entry b x.is kb) (sym (c.is_before.ensures x.entry a x.is ia) ∙ c.if-not-is_before.true));
       };
       keys = inv.3;
       memory = inv.4;
     }
 
-pub returns-in-default : goal.returns-in-default
-returns-in-default g c =
+pub returns-in_default : goal.returns-in_default
+returns-in_default g c =
     let w = g.W.Weight in
     let ranks = entry_ranks (λ a b. w.le (w.value a) (w.value b)) (ordered w.value g.met.W.Weight.laws g.met.W.Weight.bounded) in
     let q = c.loop-child.self in
@@ -33,7 +33,7 @@ returns-in-default g c =
     record {
       sound = record {
         kept = inv.0;
-        order = sink_end (before (λ a b. w.le (w.value a) (w.value b))) ranks (standing q) q.count c.loop-child.i inv.2 (λ k child lt. absurd (c.in-default.ensures k child lt));
+        order = sink_end (before (λ a b. w.le (w.value a) (w.value b))) ranks (standing q) q.count c.loop-child.i inv.2 (λ k child lt. absurd (c.in_default.ensures k child lt));
       };
       keys = inv.3;
       memory = inv.4;

@@ -1,4 +1,4 @@
-use Rattle.std.proofs.Common.{◌≡◌, ℕ, ◌-◌, ◌/◌, ◌<◌, sym, ◌∙◌, arith}
+use Rattle.std.proofs.Common.{ℕ, ◌-◌, ◌/◌, ◌<◌, sym, ◌∙◌, arith}
 use Rattle.queues.proofs.Orders.{ordered}
 use Rattle.heaps.specs.Entries.{before}
 use Rattle.heaps.specs.Heaped.{standing}
@@ -21,6 +21,6 @@ loop-i-preserved g c =
     let under : p < q.count = omega arith in
     let x = inv.0.agrees.here i lt in
     let y = inv.0.agrees.here p under in
-    let wins = sym (c.is-before.ensures x.entry y.entry x.is y.is) ∙ c.if-not-is-before.false in
+    let wins = sym (c.is_before.ensures x.entry y.entry x.is y.is) ∙ c.if-not-is_before.false in
     let rising = rise (before (λ a b. w.le (w.value a) (w.value b))) ranks (standing q) q.count (standing after) x.entry y.entry i p lt up inv.2 x.is y.is wins c.swap.ensures.swapped in
     (c.swap.ensures.kept, omega arith, rw count rising, λ k. c.swap.ensures.keys k ∙ inv.3 k, λ place far. c.swap.ensures.memory place far ∙ inv.4 place far)

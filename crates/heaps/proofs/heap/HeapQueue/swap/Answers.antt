@@ -1,5 +1,5 @@
-use Rattle.std.proofs.Common.{◌≡◌, sym, ◌∙◌, arith}
-use Rattle.heaps.specs.Heaped.{placed, standing, Agrees}
+use Rattle.std.proofs.Common.{◌≡◌, ◌∙◌, arith}
+use Rattle.heaps.specs.Heaped.{placed, standing}
 use Rattle.heaps.proofs.Tables.{swap_keys}
 use Rattle.heaps.proofs.Changes.{agrees_at, swap_done, swap_agrees}
 use Rattle.heaps.proofs.heap.HeapQueue.swap.Goals as goal
@@ -11,7 +11,7 @@ write-requires g c =
     let room = kept.room in
     let fits = kept.agrees.fits in
     record {
-      room = (omega arith, omega arith);
+      room = omega arith;
       table = kept.table;
       group = (agrees_at (standing q) (placed q.places) q.count kept.agrees c.args.j c.entry-b.result c.requires.within.1 c.entry-b.ensures).0;
     }
@@ -24,7 +24,7 @@ write-requires-2 g c =
     let fits = kept.agrees.fits in
     let long = c.write.ensures.length in
     record {
-      room = (omega arith, omega arith);
+      room = omega arith;
       table = c.write.ensures.table;
       group = (agrees_at (standing q) (placed q.places) q.count kept.agrees c.args.i c.entry-a.result c.requires.within.0 c.entry-a.ensures).0;
     }
@@ -40,6 +40,7 @@ returns g c =
     let w₁ = c.write.ensures in
     let w₂ = c.write-2.ensures in
     let room = kept.room in
+    let fits = kept.agrees.fits in
     let l₁ = w₁.length in
     let l₂ = w₂.length in
     let count : q₂.count ≡ q.count = w₂.count ∙ w₁.count in
@@ -50,5 +51,5 @@ returns g c =
       count = count;
       swapped = done;
       keys = rw count (swap_keys (standing q) (standing q₂) (placed q.places) (placed q₂.places) q.count i j c.requires.within.0 c.requires.within.1 kept.agrees agrees done);
-      memory = λ place far. w₂.memory place far ∙ w₁.memory place far;
+      memory = λ place far. w₂.memory (omega arith) place far ∙ w₁.memory (omega arith) place far;
     }

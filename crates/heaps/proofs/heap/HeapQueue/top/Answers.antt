@@ -1,4 +1,4 @@
-use Rattle.std.proofs.Common.{◌≡◌, ◌<◌, arith}
+use Rattle.std.proofs.Common.{◌<◌, arith}
 use Rattle.queues.proofs.Orders.{ordered}
 use Rattle.heaps.specs.Heaped.{placed, standing}
 use Rattle.heaps.proofs.Tables.{key_past}

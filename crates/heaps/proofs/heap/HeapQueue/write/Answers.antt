@@ -1,4 +1,4 @@
-use Rattle.std.proofs.Common.{◌≡◌, refl, ◌∙◌, arith, length-set}
+use Rattle.std.proofs.Common.{refl, ◌∙◌, arith, length-set}
 use Rattle.queues.proofs.Memory.{nth_set, unsettled_set}
 use Rattle.heaps.proofs.Lists.{get_d_set}
 use Rattle.heaps.proofs.heap.HeapQueue.write.Goals as goal
@@ -16,5 +16,5 @@ returns g c =
       count = refl;
       entry = nth_set entries c.args.at entry (omega arith);
       place = λ k. get_d_set places entry.group c.args.at 0 k (omega arith);
-      memory = unsettled_set entries entries 64 c.args.at entry (omega arith) (omega arith) (λ place far. refl);
+      memory = λ low. unsettled_set entries entries 64 c.args.at entry low c.requires.room (λ place far. refl);
     }

@@ -1,4 +1,4 @@
-use Rattle.std.proofs.Common.{◌≡◌, sym, ap, ◌∙◌}
+use Rattle.std.proofs.Common.{sym, ap, ◌∙◌}
 use Rattle.heaps.proofs.Ranks.{le_sum}
 use Rattle.heaps.proofs.Order.{one}
 use Rattle.heaps.proofs.heap.HeapQueuePriorityQueue.raise.Goals as goal
@@ -8,7 +8,7 @@ replace-requires g c =
     let w = g.W.Weight in
     let found = c.in-Some.ensures in
     let old = c.entry-old.result in
-    let sum = c.in-ok-key.ensures in
+    let sum = c.in_ok-key.ensures in
     record {
       sound = c.requires;
       within = found.0;
