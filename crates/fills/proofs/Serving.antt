@@ -1,11 +1,10 @@
 -- Links that a table of marks puts in service: link by link, with their own marks, and with one link out.
-use Rattle.std.proofs.Common.{◌≡◌, ℕ, zero, suc, ◌+◌, ◌<◌, ◌≤◌, Bool, true, false, cond, eqb, List, [], ◌∷◌, ◌++◌, map, length, get_or, take, drop, set, sym, refl, ap, ◌∙◌, subst, ap₂, ⊎_elim, add-zero, add-suc, suc-add, zero-add, arith}
+use Rattle.std.proofs.Common.{◌≡◌, ℕ, zero, suc, ◌+◌, ◌<◌, ◌≤◌, Bool, true, false, cond, eqb, List, [], ◌∷◌, ◌++◌, map, length, get_or, take, drop, set, sym, refl, ap, ◌∙◌, subst, ap₂, ⊎_elim, add-zero, zero-add, arith}
 use Rattle.std.proofs.lemmas.List.{get_or-set_same, get_or-set_other, get_or_past, length-set, length-take-le, take_more, take-append-drop}
 use Rattle.std.proofs.lemmas.Bool.{cases_lt, eq-eqb, ne_eqb}
 use Rattle.weights.specs.declared.weight.Weight.{Ghosts}
-use Rattle.weights.specs.Laws.{limit}
 use Rattle.cuts.specs.Kinds.{kind_of}
-use Rattle.cuts.specs.Links.{Link as Joint, total, Ends, Sound}
+use Rattle.cuts.specs.Links.{total, Ends, Sound}
 use Rattle.cuts.proofs.Facts.{sound_within}
 use Rattle.cuts.proofs.Fills.{sound_front}
 use Rattle.plans.specs.declared.plan.Link.{Link}

@@ -16,7 +16,7 @@ put-marks-requires g c =
     record {
       filed = c.requires.filed;
       size = search rules;
-      shows = subst (λ ms. Shows ms m.links) (sym c.fill-without.ensures.same) (subst (Shows c.copy-marks.new.marks) value c.copy-marks.ensures.shows);
+      shows = subst (λ ms. Shows ms m.links) (sym c.fill-without.ensures.same) (subst (Shows c.copy_marks.new.marks) value c.copy_marks.ensures.shows);
     }
 
 pub work-out-requires : goal.work-out-requires
@@ -24,7 +24,7 @@ work-out-requires g c =
     let w = g.W.Weight in
     let n = c.unit-count-n.result in
     let links = c.links-links.result.now in
-    let marks = set c.copy-marks.new.marks c.args.link 0 in
+    let marks = set c.copy_marks.new.marks c.args.link 0 in
     let is = c.plan-plan.ensures in
     let units = c.unit-count-n.ensures.units ∙ ap (λ p. length (model_of p).codes) is in
     let value = c.links-links.ensures.value ∙ ap (λ p. (model_of p).links) is in
@@ -44,7 +44,7 @@ returns g c =
     let n = c.unit-count-n.result in
     let m = model_of c.args.filing.now.plan in
     let links = c.links-links.result.now in
-    let marks = set c.copy-marks.new.marks c.args.link 0 in
+    let marks = set c.copy_marks.new.marks c.args.link 0 in
     let is = c.plan-plan.ensures in
     let units = c.unit-count-n.ensures.units ∙ ap (λ p. length (model_of p).codes) is in
     let value = c.links-links.ensures.value ∙ ap (λ p. (model_of p).links) is in
@@ -52,7 +52,7 @@ returns g c =
     let joins = subst (λ k. AllWithin (Joins w k) links 0 (length links)) (sym c.unit-count-n.ensures.value) c.links-links.ensures.joins in
     let total : total_of w links ≤ 1000000 = let e = ap (total_of w) value in let a = s.counted in let b = s.limited in omega arith in
     let light = served_sound w marks n links joins total in
-    let out = served_out w c.copy-marks.new.marks c.args.link links c.copy-marks.ensures.shows ∙ ap (λ ls. map (valued w) (changed c.args.link (λ l. with_mark l false) ls)) value in
+    let out = served_out w c.copy_marks.new.marks c.args.link links c.copy_marks.ensures.shows ∙ ap (λ ls. map (valued w) (changed c.args.link (λ l. with_mark l false) ls)) value in
     let e = c.work-out.ensures in
     record {
       filed = c.put-marks.ensures.filed;

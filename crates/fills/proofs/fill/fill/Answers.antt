@@ -1,4 +1,4 @@
-use Rattle.std.proofs.Common.{◌≡◌, ◌+◌, [], take, sym, refl, ◌∙◌, subst, arith}
+use Rattle.std.proofs.Common.{◌+◌, [], take, sym, refl, ◌∙◌, subst, arith}
 use Rattle.std.proofs.lemmas.List.{take_all}
 use Rattle.cuts.specs.Kinds.{kind_of}
 use Rattle.cuts.specs.Links.{Sound}
@@ -11,8 +11,8 @@ use Rattle.fills.proofs.fill.fill.Goals as goal
 pub loop-i-init : goal.loop-i-init
 loop-i-init g c = (c.clear.ensures.holds, refl)
 
-pub add-link-requires : goal.add-link-requires
-add-link-requires g c =
+pub add_link-requires : goal.add_link-requires
+add_link-requires g c =
     let w = g.W.Weight in
     let i = c.loop-i.i in
     let l = c.index-links-i.result in
@@ -44,8 +44,8 @@ loop-i-preserved g c =
     let marks = c.args.marks.now in
     let more = served_on w marks links i l c.loop-i-test.true c.index-links-i.is c.if-marks-i-ne1.false in
     let sound = subst (Sound (kind_of w) c.args.n) more (front_sound w marks c.args.n links (i + 1) c.requires.ends c.requires.total) in (
-      subst (λ ls. Holds w c.args.n ls [] c.add-link.new.table) (sym more) (c.add-link.ensures.holds (served w marks (take i links)) c.loop-i.invariant.0 sound),
-      c.add-link.ensures.rest ∙ c.loop-i.invariant.1,
+      subst (λ ls. Holds w c.args.n ls [] c.add_link.new.table) (sym more) (c.add_link.ensures.holds (served w marks (take i links)) c.loop-i.invariant.0 sound),
+      c.add_link.ensures.rest ∙ c.loop-i.invariant.1,
     )
 
 pub returns : goal.returns
