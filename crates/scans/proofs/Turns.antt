@@ -6,7 +6,7 @@ use Rattle.weights.specs.Laws.{limit}
 use Rattle.cuts.specs.declared.entry.Entry.{Entry}
 use Rattle.cuts.specs.Kinds.{Kind, Lawful, above}
 use Rattle.cuts.specs.Links.{Link, Sound}
-use Rattle.cuts.specs.Groups.{after, group, stands, joint}
+use Rattle.cuts.specs.Groups.{stands, joint}
 use Rattle.cuts.specs.Scans.{has, key, raised, finds}
 use Rattle.cuts.proofs.Sums.{right}
 use Rattle.cuts.proofs.Facts.{sums_fit, key_more}

@@ -6,7 +6,7 @@ pub loop-g-preserved : goal.loop-g-preserved
 loop-g-preserved g c =
     let p = λ (x : ℕ). get_or c.args.groups.now.standing x false in
     let stands : p c.loop-g.g ≡ true = sym c.stands.ensures ∙ c.if-not-stands.false in (
-      c.put-new.ensures.sound,
-      filled_more p c.loop-g.g c.nothing.result stands c.nothing.ensures c.put-new.ensures.put c.loop-g.invariant.1,
+      c.put_new.ensures.sound,
+      filled_more p c.loop-g.g c.nothing.result stands c.nothing.ensures c.put_new.ensures.put c.loop-g.invariant.1,
       marked_more p c.loop-g.g (omega arith) stands c.loop-g.invariant.2,
     )

@@ -1,7 +1,7 @@
 use Rattle.std.proofs.Common.{◌≡◌, sym, ◌∙◌, arith}
 use Rattle.scans.proofs.Raising.{raise_none, raise_gone, raise_light, raise_can, raise_short, raise_found, raise_every, notes_every}
 use Rattle.scans.proofs.scan.raise_all.Goals as goal
-use Rattle.scans.proofs.scan.raise_all.Goals.{then-raised-to, else-raised-to}
+use Rattle.scans.proofs.scan.raise_all.Goals.{then-raised_to, else-raised_to}
 
 pub loop-w-init : goal.loop-w-init
 loop-w-init g c = (c.requires.sound, λ ls es taken turn. raise_none g.met.W.Weight.laws turn _ _)
@@ -12,14 +12,14 @@ loop-w-preserved-then-not-waiting-w g c = (
   λ ls es taken turn. raise_gone g.met.W.Weight.laws turn c.loop-w-test.true (c.loop-w.invariant.1 ls es taken turn) c.if-not-waiting-w.true,
 )
 
-pub loop-w-preserved-in-default : goal.loop-w-preserved-in-default
-loop-w-preserved-in-default g c = (
+pub loop-w-preserved-in_default : goal.loop-w-preserved-in_default
+loop-w-preserved-in_default g c = (
   c.loop-w.invariant.0,
-  λ ls es taken turn. raise_light g.met.W.Weight.laws turn c.loop-w-test.true (c.loop-w.invariant.1 ls es taken turn) c.if-not-waiting-w.false c.in-default.ensures,
+  λ ls es taken turn. raise_light g.met.W.Weight.laws turn c.loop-w-test.true (c.loop-w.invariant.1 ls es taken turn) c.if-not-waiting-w.false c.in_default.ensures,
 )
 
-pub raised-to-requires : goal.raised-to-requires
-raised-to-requires g c =
+pub raised_to-requires : goal.raised_to-requires
+raised_to-requires g c =
     let turn = c.requires.turn.3 in
     record {
       sound = c.loop-w.invariant.0;
@@ -35,13 +35,13 @@ note-requires g c =
 
 pub loop-w-preserved : goal.loop-w-preserved
 loop-w-preserved g c =
-    let (key, answer, reached) = c.raised-to.ensures.raised in (
-      c.raised-to.ensures.sound,
+    let (key, answer, reached) = c.raised_to.ensures.raised in (
+      c.raised_to.ensures.sound,
       λ ls es taken turn.
           let raising = c.loop-w.invariant.1 ls es taken turn in
-          elim c.if-raised-to.branch [
-            | then-raised-to w ↦ raise_found g.met.W.Weight.laws turn c.loop-w-test.true raising c.if-not-waiting-w.false c.in-Some.joint c.in-Some.ensures key answer (sym reached ∙ w.if-raised-to.true) w.note.ensures _ w.found-is
-            | else-raised-to w ↦ raise_short g.met.W.Weight.laws turn c.loop-w-test.true raising c.if-not-waiting-w.false c.in-Some.joint c.in-Some.ensures key answer (sym reached ∙ w.if-raised-to.false) _ w.found-is
+          elim c.if-raised_to.branch [
+            | then-raised_to w ↦ raise_found g.met.W.Weight.laws turn c.loop-w-test.true raising c.if-not-waiting-w.false c.in-Some.joint c.in-Some.ensures key answer (sym reached ∙ w.if-raised_to.true) w.note.ensures _ w.found-is
+            | else-raised_to w ↦ raise_short g.met.W.Weight.laws turn c.loop-w-test.true raising c.if-not-waiting-w.false c.in-Some.joint c.in-Some.ensures key answer (sym reached ∙ w.if-raised_to.false) _ w.found-is
           ],
     )
 
