@@ -17,7 +17,7 @@ loop-groups-init g c =
       record { most = c.requires.room.most; weights = c.requires.room.weights; marks = omega arith; entries = c.requires.room.entries },
       (λ ls sound holds. (
         record { done = []; best = group [] u; scans = 0 },
-        at_start g.W.Weight n ls _ _ _ _ _ u c.lightest-unit.ensures.unit sound holds c.single-groups.ensures c.entry.ensures c.mark-group.ensures.marked,
+        at_start g.W.Weight n ls _ _ _ _ _ u c.lightest-unit.ensures.unit sound holds c.single-groups.ensures c.entry.ensures c.mark_group.ensures.marked,
         begin u (c.lightest-unit.ensures.lightest ls holds),
       )),
       omega arith,
@@ -75,8 +75,8 @@ returns g c =
       outcome = λ ls sound holds.
           let (p, was, work) = inv.2 ls sound holds in
           let over = c.loop-groups-test.ensures n ls p was.explains.tracks was.best in
-          at_end g.W.Weight n ls p _ _ _ _ _ _ was work over (c.turn-over.ensures.turned p.best was.marks_are);
-      spared = record { weights = inv.4.weights; marks = c.turn-over.ensures.rest ∙ inv.4.marks ∙ c.mark-group.ensures.rest; entries = inv.4.entries };
+          at_end g.W.Weight n ls p _ _ _ _ _ _ was work over (c.turn_over.ensures.turned p.best was.marks_are);
+      spared = record { weights = inv.4.weights; marks = c.turn_over.ensures.rest ∙ inv.4.marks ∙ c.mark_group.ensures.rest; entries = inv.4.entries };
       mergers = omega arith;
       unscanned = inv.5;
       scanned = inv.6;

@@ -18,15 +18,15 @@ returns g c =
     let e = c.args.merger in
     let mergers = c.args.progress.now.mergers in
     let entries = c.args.entries.now in
-    let best = c.note-best.ensures in
+    let best = c.note_best.ensures in
     let room : mergers < length entries = omega arith in
     record {
       at = λ ls p was low high.
           at_merged g.W.Weight n ls p e _ _ _ _ _ _ _ was low high c.requires.less
-          (c.merge-rows.ensures.holds ls p.done e was.explains low high refl refl)
+          (c.merge_rows.ensures.holds ls p.done e was.explains low high refl refl)
           (c.join.ensures.tracks n p.done e was.explains.joins low high refl refl was.explains.tracks)
           room _ c.entry-degree.ensures _ _ best.mergers best.scans best.kept best.lighter;
-      spared = record { weights = c.merge-rows.ensures.rest; marks = best.rest; entries = drop-set-lt _ entries mergers e (omega arith) };
+      spared = record { weights = c.merge_rows.ensures.rest; marks = best.rest; entries = drop-set-lt _ entries mergers e (omega arith) };
       mergers = best.mergers;
       scans = best.scans;
     }

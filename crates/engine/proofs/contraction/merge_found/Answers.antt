@@ -34,7 +34,7 @@ merge-requires g c =
     let found = c.args.found.now in
     let are = pair_groups g (goal.at.merge-requires g c).After-of-b in
     let (ls, p, was) = c.requires.at in
-    let (less, low, high) = pair_stands g.W.Weight c.args.n ls found c.loop-i.i p _ _ _ _ _ (inv.1 ls p was) _ _ are c.if-a-b.false c.merger-of-merger.result c.merger-of-merger.ensures in
+    let (less, low, high) = pair_stands g.W.Weight c.args.n ls found c.loop-i.i p _ _ _ _ _ (inv.1 ls p was) _ _ are c.if-a-b.false c.merger_of-merger.result c.merger_of-merger.ensures in
     record { room = inv.0; less = less; at = (ls, looked g.W.Weight c.args.n ls found c.loop-i.i p, inv.1 ls p was, low, high) }
 
 pub loop-i-preserved : goal.loop-i-preserved
@@ -44,14 +44,14 @@ loop-i-preserved g c =
     let i = c.loop-i.i in
     let inv = c.loop-i.invariant in
     let found = c.args.found.now in
-    let e = c.merger-of-merger in
+    let e = c.merger_of-merger in
     let are = pair_groups g (goal.at.loop-i-preserved g c).After-of-b in (
       record { most = inv.0.most; weights = omega arith; marks = omega arith; entries = omega arith },
       (λ ls p was.
           let at = inv.1 ls p was in
           let q = looked w n ls found i p in
           let (less, low, high) = pair_stands w n ls found i p _ _ _ _ _ at _ _ are c.if-a-b.false e.result e.ensures in
-          let on = c.if-not-goes-on.ensures n ls q at.explains.tracks at.best in
+          let on = c.if-not-goes_on.ensures n ls q at.explains.tracks at.best in
           subst (λ r. At w n ls r c.merge.new.table c.merge.new.groups c.merge.new.progress c.merge.new.marks c.merge.new.entries)
           (pair_merged w n ls found i p _ _ _ _ _ at _ _ are c.if-a-b.false e.result e.ensures on)
           (c.merge.ensures.at ls q at low high)),
@@ -72,8 +72,8 @@ returns-after-loop-i g c =
       scans = inv.3;
     }
 
-pub returns-then-not-goes-on : goal.returns-then-not-goes-on
-returns-then-not-goes-on g c =
+pub returns-then-not-goes_on : goal.returns-then-not-goes_on
+returns-then-not-goes_on g c =
     let w = g.W.Weight in
     let n = c.args.n in
     let inv = c.loop-i.invariant in
@@ -82,7 +82,7 @@ returns-then-not-goes-on g c =
       at = λ ls p was.
           let at = inv.1 ls p was in
           let q = looked w n ls found c.loop-i.i p in
-          let over = c.if-not-goes-on.ensures n ls q at.explains.tracks at.best in
+          let over = c.if-not-goes_on.ensures n ls q at.explains.tracks at.best in
           subst (λ r. At w n ls r c.loop-i.table c.loop-i.groups c.loop-i.progress c.loop-i.marks c.loop-i.entries) (found_over (kind_of w) n ls (pairs_of found) c.loop-i.i p over) at;
       spared = inv.2;
       scans = inv.3;

@@ -6,8 +6,8 @@ use Rattle.scans.specs.Scanned.{pairs_of}
 use Rattle.engine.proofs.Rounds.{at_scan, first_stands, test_work, scan_work, scan_more}
 use Rattle.engine.proofs.contraction.round.Goals as goal
 
-pub merge-found-requires : goal.merge-found-requires
-merge-found-requires g c =
+pub merge_found-requires : goal.merge_found-requires
+merge_found-requires g c =
     let (ls, p, was, work, on) = c.requires.at in
     let few = (goes_on (kind_of g.W.Weight) g.met.W.Weight.laws c.args.n ls was.explains.sound p on).0 in
     record { room = c.requires.room; found = c.scan-found.ensures.units; scans = omega arith; at = (ls, next_scan (kind_of g.W.Weight) c.args.n ls p, at_scan g.W.Weight c.args.n ls p _ _ _ _ _ was) }
@@ -17,7 +17,7 @@ returns-in-Some g c = record {
   sound = c.requires.sound;
   at = λ ls p was work on.
       let first = c.in-Some.ensures ls p.done was.explains in
-      let e = c.merger-of-merger in
+      let e = c.merger_of-merger in
       let (less, low, high) = first_stands g.W.Weight c.args.n ls p _ _ _ _ _ was work on _ _ _ first e.result e.ensures in
       (merge (kind_of g.W.Weight) c.args.n ls p e.result, c.merge.ensures.at ls p was low high, test_work g.W.Weight c.args.n ls p _ _ _ _ _ was work on _ _ _ first e.result e.ensures);
   more = omega arith;

@@ -9,7 +9,7 @@ loop-unit-preserved c =
     let marks = c.loop-unit.marks in
     let old = c.args.marks.now in
     let inv = c.loop-unit.invariant in (
-      mark_more (λ x. cond (eqb (get_or old x 0) 0) 1 0) marks i _ (omega arith) (c.other-mark.ensures ∙ ap (λ m. cond (eqb m 0) 1 0) (inv.1 i (omega arith))) inv.0,
+      mark_more (λ x. cond (eqb (get_or old x 0) 0) 1 0) marks i _ (omega arith) (c.other_mark.ensures ∙ ap (λ m. cond (eqb m 0) 1 0) (inv.1 i (omega arith))) inv.0,
       mark_past marks old i _ inv.1,
       drop-set-lt c.args.n marks i _ (omega arith) ∙ inv.2,
     )

@@ -15,14 +15,14 @@ loop-v-preserved-then-not-stands-2 g c = λ ls es ex.
     below_more _ _ (c.loop-v.invariant ls es ex)
     (λ pair. absurd (both_ways _ (marked ex c.loop-v.v false c.loop-v-test.true c.if-not-stands-2.ensures) pair.1))
 
-pub loop-v-preserved-then-at-most : goal.loop-v-preserved-then-at-most
-loop-v-preserved-then-at-most g c = λ ls es ex.
+pub loop-v-preserved-then-at_most : goal.loop-v-preserved-then-at_most
+loop-v-preserved-then-at_most g c = λ ls es ex.
     let two = standing c.args.groups.now c.args.n c.loop-u.u c.loop-v.v c.if-not-stands.ensures c.if-not-stands-2.ensures (omega arith) c.loop-v-test.true in
     below_more _ _ (c.loop-v.invariant ls es ex)
-    (λ pair. absurd (both_ways _ (above_at ex two _ _ true c.entry.ensures c.nothing.ensures c.if-at-most.ensures) pair.3))
+    (λ pair. absurd (both_ways _ (above_at ex two _ _ true c.entry.ensures c.nothing.ensures c.if-at_most.ensures) pair.3))
 
 pub loop-v-preserved : goal.loop-v-preserved
-loop-v-preserved g c = λ ls es ex. below_more _ _ (c.loop-v.invariant ls es ex) (λ pair. c.in-default.ensures ls es ex)
+loop-v-preserved g c = λ ls es ex. below_more _ _ (c.loop-v.invariant ls es ex) (λ pair. c.in_default.ensures ls es ex)
 
 pub loop-u-preserved : goal.loop-u-preserved
 loop-u-preserved g c = λ ls es ex.
@@ -35,7 +35,7 @@ returns-in-Some g c = λ ls es ex.
     let two = standing c.args.groups.now c.args.n c.loop-u.u c.loop-v.v c.if-not-stands.ensures c.if-not-stands-2.ensures (omega arith) c.loop-v-test.true in
     let judged = c.in-Some.ensures ls es ex in
     record {
-      pair = (low ex two, high ex two, two.order, above_at ex two _ _ false c.entry.ensures c.nothing.ensures c.if-at-most.ensures);
+      pair = (low ex two, high ex two, two.order, above_at ex two _ _ false c.entry.ensures c.nothing.ensures c.if-at_most.ensures);
       meets = judged.0;
       lowest = judged.1;
       earlier = λ a b pair. ⊎_elim

@@ -8,15 +8,15 @@ use Rattle.fills.proofs.Serving.{served_own, served_sound}
 use Rattle.solvers.proofs.Working.{left_behind, room_for, worked}
 use Rattle.solvers.proofs.solve.solve.Goals as goal
 
-pub work-out-requires : goal.work-out-requires
-work-out-requires g c =
+pub work_out-requires : goal.work_out-requires
+work_out-requires g c =
     let w = g.W.Weight in
-    let n = c.unit-count-n.result in
+    let n = c.unit_count-n.result in
     let links = c.links-links.result.now in
-    let marks = c.copy-marks.new.marks in
-    let units = c.unit-count-n.ensures.units in
+    let marks = c.copy_marks.new.marks in
+    let units = c.unit_count-n.ensures.units in
     let s = c.requires.plan in
-    let joins = subst (λ k. AllWithin (Joins w k) links 0 (length links)) (sym c.unit-count-n.ensures.value) c.links-links.ensures.joins in
+    let joins = subst (λ k. AllWithin (Joins w k) links 0 (length links)) (sym c.unit_count-n.ensures.value) c.links-links.ensures.joins in
     let total : total_of w links ≤ 1000000 = let e = ap (total_of w) c.links-links.ensures.value in let a = s.counted in let b = s.limited in omega arith in
     record {
       queue = c.requires.queue;
@@ -28,20 +28,20 @@ work-out-requires g c =
 pub returns : goal.returns
 returns g c =
     let w = g.W.Weight in
-    let n = c.unit-count-n.result in
+    let n = c.unit_count-n.result in
     let links = c.links-links.result.now in
-    let marks = c.copy-marks.new.marks in
-    let units = c.unit-count-n.ensures.units in
+    let marks = c.copy_marks.new.marks in
+    let units = c.unit_count-n.ensures.units in
     let s = c.requires.plan in
-    let joins = subst (λ k. AllWithin (Joins w k) links 0 (length links)) (sym c.unit-count-n.ensures.value) c.links-links.ensures.joins in
+    let joins = subst (λ k. AllWithin (Joins w k) links 0 (length links)) (sym c.unit_count-n.ensures.value) c.links-links.ensures.joins in
     let total : total_of w links ≤ 1000000 = let e = ap (total_of w) c.links-links.ensures.value in let a = s.counted in let b = s.limited in omega arith in
     let light = served_sound w marks n links joins total in
-    let own = served_own w marks links c.copy-marks.ensures.shows ∙ ap (map (valued w)) c.links-links.ensures.value in
-    let e = c.work-out.ensures in
+    let own = served_own w marks links c.copy_marks.ensures.shows ∙ ap (map (valued w)) c.links-links.ensures.value in
+    let e = c.work_out.ensures in
     record {
       sound = e.sound;
-      answer = worked w g.met.W.Weight.laws (model_of c.args.plan.now) n units (served w marks links) own light (let h = c.requires.some in omega arith) c.work-out.result c.work-out.new.marks c.work-out.new.entries
-          e.new e.mergers (let a = c.requires.room.entries in let k = c.work-out.auto.entries in omega arith) (e.outcome (served w marks links) light c.fill.ensures.holds);
-      memory = left_behind w n _ _ units c.args.table.now c.fill.new.table c.work-out.new.table c.args.marks.now c.work-out.new.marks c.args.entries.now c.work-out.new.entries c.fill.ensures.rest e.memory;
+      answer = worked w g.met.W.Weight.laws (model_of c.args.plan.now) n units (served w marks links) own light (let h = c.requires.some in omega arith) c.work_out.result c.work_out.new.marks c.work_out.new.entries
+          e.new e.mergers (let a = c.requires.room.entries in let k = c.work_out.auto.entries in omega arith) (e.outcome (served w marks links) light c.fill.ensures.holds);
+      memory = left_behind w n _ _ units c.args.table.now c.fill.new.table c.work_out.new.table c.args.marks.now c.work_out.new.marks c.args.entries.now c.work_out.new.entries c.fill.ensures.rest e.memory;
       queue = e.queue;
     }
