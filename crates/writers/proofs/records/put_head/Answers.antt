@@ -5,6 +5,6 @@ use Rattle.writers.proofs.records.put_head.Goals as goal
 
 pub returns : goal.returns
 returns g c =
-    let issue = put_same (ap two c.number.ensures) c.put-two-at.ensures in
-    let kind = put_same (ap (λ b. b ∷ []) c.kind-byte.ensures) c.put-byte-at.ensures in
-    put_both c.put-bytes-at.ensures (put_both issue (put_both kind (put_both c.put-byte-at-2.ensures c.put-two.ensures)))
+    let issue = put_same (ap two c.number.ensures) c.put_two-at.ensures in
+    let kind = put_same (ap (λ b. b ∷ []) c.kind_byte.ensures) c.put_byte-at.ensures in
+    put_both c.put_bytes-at.ensures (put_both issue (put_both kind (put_both c.put_byte-at-2.ensures c.put_two.ensures)))

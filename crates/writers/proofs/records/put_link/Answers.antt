@@ -4,5 +4,5 @@ use Rattle.writers.proofs.records.put_link.Goals as goal
 
 pub returns : goal.returns
 returns g c =
-    let mark = put_same (ap (λ b. b ∷ []) c.mark.ensures) c.put-byte-at-3.ensures in
-    put_both c.put-byte-at.ensures (put_both c.put-byte-at-2.ensures (put_both mark c.put-weight.ensures))
+    let mark = put_same (ap (λ b. b ∷ []) c.mark.ensures) c.put_byte-at-3.ensures in
+    put_both c.put_byte-at.ensures (put_both c.put_byte-at-2.ensures (put_both mark c.put_weight.ensures))

@@ -5,14 +5,14 @@ use Rattle.writers.proofs.Puts.{put_same}
 use Rattle.writers.proofs.Steps.{room_next, put_next, put_all}
 use Rattle.writers.proofs.records.put_links.Goals as goal
 
-pub put-link-next-requires : goal.put-link-next-requires
-put-link-next-requires g c =
+pub put_link-next-requires : goal.put_link-next-requires
+put_link-next-requires g c =
     let room = room_next (link_bytes g.W.Weight) c.args.links.now c.loop-k.k c.loop-k.invariant c.index-links-k.result c.loop-k-test.true c.loop-k.auto.out c.requires in
     subst (λ l. Room c.loop-k.out c.loop-k.next (link_bytes g.W.Weight l)) (sym c.index-links-k.is) room
 
 pub loop-k-preserved : goal.loop-k-preserved
 loop-k-preserved g c =
-    let link = put_same (ap (link_bytes g.W.Weight) c.index-links-k.is) c.put-link-next.ensures in
+    let link = put_same (ap (link_bytes g.W.Weight) c.index-links-k.is) c.put_link-next.ensures in
     put_next (link_bytes g.W.Weight) c.args.links.now c.loop-k.k c.loop-k.invariant c.index-links-k.result c.loop-k-test.true link
 
 pub returns : goal.returns

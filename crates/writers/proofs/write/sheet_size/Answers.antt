@@ -9,5 +9,5 @@ sized a b c d = cc
 
 pub returns : goal.returns
 returns g c =
-    sized c.unit_count.ensures.units c.code_size_cases.ensures c.link_count.ensures.links c.part-count.ensures
+    sized c.unit_count.ensures.units c.code_size.ensures c.link_count.ensures.links c.part_count.ensures
     ∙ sym (length_sheet g.W.Weight c.args.issue (model_of c.args.plan.now) c.requires.valid)
