@@ -1,25 +1,24 @@
 -- A sheet without faults is the sheet of the plan that is made from it.
-use Rattle.std.proofs.Common.{◌≡◌, ℕ, zero, suc, ◌+◌, ◌*◌, ◌<◌, ◌≤◌, Bool, true, false, cond, not, eqb, leb, List, [], ◌∷◌, ◌++◌, map, length, get_or, take, drop, Some, None, Option, sym, refl, ap, ◌∙◌, subst, ap₂, ⊎_elim, suc-mul, add-mul, one-mul, zero-mul, add-one, arith}
-use Rattle.std.specs.List.{AllWithin, flat_map, AllByRecursion as All}
+use Rattle.std.proofs.Common.{◌≡◌, ℕ, zero, suc, ◌+◌, ◌*◌, ◌<◌, ◌≤◌, Bool, true, false, cond, eqb, List, [], ◌∷◌, ◌++◌, length, get_or, take, drop, Some, None, Option, sym, refl, ap, ◌∙◌, subst, ap₂, ⊎_elim, suc-mul, zero-mul, add-one, arith}
+use Rattle.std.specs.List.{flat_map, AllByRecursion as All}
 use Rattle.std.proofs.ByRecursion.{All-map, All-push, all_from_every}
 use Rattle.std.proofs.lemmas.List.{take_all, take_more, length-map, length-take, length-take-le, length-drop, length_push, get_or-take, get_or_push, get_or_append_left, take-append-le, flat_map_more}
-use Rattle.std.proofs.lemmas.Bool.{cases_Bool, cases_lt, cond-true, cond-false, eq-eqb, eqb-true, both_ways, not-true}
+use Rattle.std.proofs.lemmas.Bool.{cases_Bool, cases_lt, cond-true, cond-false, eq-eqb, eqb-true, not-true}
 use Rattle.refusals.specs.declared.Refusal.{Refusal}
 use Rattle.weights.specs.declared.weight.Weight.{Ghosts}
 use Rattle.codes.specs.Code.{is_code}
 use Rattle.plans.specs.declared.plan.Plan.{Plan}
 use Rattle.plans.specs.declared.plan.Unit.{Unit as Record}
-use Rattle.plans.specs.Calls.{check, accepted}
-use Rattle.plans.specs.Model.{Model, model_of, code_of, borne_by_other, total_of}
+use Rattle.plans.specs.Calls.{check}
+use Rattle.plans.specs.Model.{Model, model_of, code_of, borne_by_other}
 use Rattle.plans.specs.Sound.{Joins, Sound}
 use Rattle.sheets.specs.declared.issue.Issue.{Issue}
 use Rattle.sheets.specs.declared.issue.Issue.TheVariants.{First, Second}
-use Rattle.sheets.specs.Fields.{Field, code, bytes_at, code_fields, code_place, issue_in, link_place, links_in, text_in, text_of, texts_in, units_in, place_of, part_of, size_of}
+use Rattle.sheets.specs.Fields.{Field, code, bytes_at, code_fields, code_place, issue_in, link_place, links_in, text_in, text_of, texts_in, units_in, place_of, part_of}
 use Rattle.sheets.specs.Faults.{fault_of, fault_with, wrong, Faultless}
-use Rattle.sheets.specs.Format.{Valid, code_field, size_of_code, bytes_of_head, link_bytes, link_size, sheet_of}
+use Rattle.sheets.specs.Format.{Valid, code_field, size_of_code, bytes_of_head, link_size, sheet_of}
 use Rattle.sheets.proofs.Firsts.{none_some}
 use Rattle.readers.specs.Loads.{Apart, Loaded}
-use Rattle.readers.proofs.Coding.{next_code, first_code}
 use Rattle.readers.proofs.Filling.{clear_at}
 use Rattle.readers.proofs.Heads.{whole}
 use Rattle.readers.proofs.Linking.{first_link}

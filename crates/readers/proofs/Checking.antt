@@ -1,5 +1,5 @@
 -- Going through the links of a sheet.
-use Rattle.std.proofs.Common.{◌≡◌, ℕ, ◌+◌, ◌≤◌, leb, List, [], ◌∷◌, ◌++◌, length, Some, None, Ok, Err, Result, sym, refl, ap, ◌∙◌, subst, add-zero, add-one, arith}
+use Rattle.std.proofs.Common.{◌≡◌, ℕ, ◌+◌, ◌≤◌, leb, List, [], ◌∷◌, ◌++◌, length, None, Ok, Err, Result, sym, ap, ◌∙◌, subst, add-zero, add-one, arith}
 use Rattle.std.proofs.ByRecursion.{All-append}
 use Rattle.refusals.specs.declared.Refusal.TheVariants.{TrailingBytes}
 use Rattle.weights.specs.declared.weight.Weight.{Ghosts}

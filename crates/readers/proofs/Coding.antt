@@ -1,5 +1,5 @@
 -- Reading one code after the other.
-use Rattle.std.proofs.Common.{◌≡◌, ℕ, ◌+◌, ◌*◌, ◌<◌, ◌≤◌, List, [], ◌∷◌, ◌++◌, map, length, take, set, Some, None, Result, sym, refl, ap, ◌∙◌, subst, add-mul, one-mul, zero-mul, add-one, arith}
+use Rattle.std.proofs.Common.{◌≡◌, ℕ, ◌+◌, ◌<◌, List, [], ◌∷◌, ◌++◌, map, length, take, set, None, Result, sym, refl, ap, ◌∙◌, subst, add-mul, one-mul, zero-mul, add-one, arith}
 use Rattle.weights.specs.declared.weight.Weight.{Ghosts}
 use Rattle.codes.specs.declared.code.FaultCode.{FaultCode}
 use Rattle.codes.specs.Held.{bytes_of}

@@ -1,5 +1,5 @@
 -- Adding one link of a right sheet after the other.
-use Rattle.std.proofs.Common.{◌≡◌, ℕ, zero, suc, ◌+◌, ◌*◌, ◌<◌, ◌≤◌, List, [], ◌∷◌, ◌++◌, length, take, None, Ok, Err, sym, refl, ap, ◌∙◌, subst, ⊎_elim, add-zero, add-mul, one-mul, zero-mul, add-one, arith}
+use Rattle.std.proofs.Common.{◌≡◌, ℕ, zero, suc, ◌+◌, ◌*◌, ◌<◌, ◌≤◌, List, [], ◌∷◌, ◌++◌, length, None, Ok, sym, refl, ap, ◌∙◌, subst, ⊎_elim, add-mul, one-mul, zero-mul, add-one, arith}
 use Rattle.std.specs.List.{flat_map, AllByRecursion as All}
 use Rattle.std.proofs.lemmas.List.{flat_map_more, length_push}
 use Rattle.std.proofs.lemmas.Bool.{cases_lt}
@@ -17,7 +17,6 @@ use Rattle.readers.specs.declared.cursor.Cursor.{Cursor}
 use Rattle.readers.specs.Loads.{Loaded}
 use Rattle.readers.specs.Records.{Linked, Reads}
 use Rattle.readers.specs.Steps.{Stands}
-use Rattle.readers.proofs.Linking.{first_link}
 use Rattle.readers.proofs.Pieces.{bytes_join}
 
 -- the first k links were added

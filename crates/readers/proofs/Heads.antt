@@ -1,5 +1,5 @@
 -- The fields of the head.
-use Rattle.std.proofs.Common.{◌≡◌, ℕ, ◌+◌, ◌<◌, ◌≤◌, true, false, eqb, leb, List, [], ◌∷◌, ◌++◌, length, get_or, take, drop, IfOk, Some, None, Option, Result, sym, refl, ap, ◌∙◌, subst, ⊎_elim, arith, MatchResult}
+use Rattle.std.proofs.Common.{◌≡◌, ℕ, ◌+◌, ◌≤◌, true, false, eqb, leb, List, [], ◌∷◌, ◌++◌, length, IfOk, Some, None, Result, sym, ap, ◌∙◌, ⊎_elim, arith, MatchResult}
 use Rattle.refusals.specs.declared.Refusal.TheVariants.{OtherKind, Full}
 use Rattle.weights.specs.declared.weight.Weight.{Ghosts}
 use Rattle.plans.specs.Calls.{accepted, check, most_units, most_links}

@@ -1,14 +1,13 @@
 -- Reading a link, field by field.
-use Rattle.std.proofs.Common.{◌≡◌, ℕ, ◌+◌, ◌*◌, ◌<◌, ◌≤◌, Bool, cond, ltb, List, [], ◌∷◌, ◌++◌, length, Some, None, Result, sym, refl, ap, ◌∙◌, subst, add-zero, add-mul, one-mul, zero-mul, arith}
+use Rattle.std.proofs.Common.{◌≡◌, ℕ, ◌+◌, ◌*◌, ◌<◌, ◌≤◌, Bool, cond, ltb, List, [], ◌∷◌, ◌++◌, length, Result, sym, ap, ◌∙◌, subst, add-mul, one-mul, zero-mul, arith}
 use Rattle.refusals.specs.declared.Refusal.TheVariants.{BadMark}
 use Rattle.weights.specs.declared.weight.Weight.{Ghosts}
-use Rattle.plans.specs.declared.plan.Link.{Link}
 use Rattle.plans.specs.Calls.{accepted, check}
 use Rattle.sheets.specs.declared.fault.Fault.{Fault}
 use Rattle.sheets.specs.declared.fault.Part.TheVariants as part
-use Rattle.sheets.specs.Fields.{first, second, mark, weight, byte_at, bytes_at, code_place, units_in, link_place, number_place}
+use Rattle.sheets.specs.Fields.{first, second, mark, byte_at, bytes_at, code_place, units_in, link_place, number_place}
 use Rattle.sheets.specs.Faults.{fault_of, end_verdict, other_verdict}
-use Rattle.sheets.specs.Format.{link_bytes, link_size, fours}
+use Rattle.sheets.specs.Format.{link_size, fours}
 use Rattle.readers.specs.declared.cursor.Cursor.{Cursor}
 use Rattle.readers.specs.Records.{Linked, Weighed}
 use Rattle.readers.specs.Steps.{Stands, Took}

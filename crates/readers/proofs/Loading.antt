@@ -1,7 +1,7 @@
 -- The calls by which the plan of a right sheet is made are never refused.
-use Rattle.std.proofs.Common.{◌≡◌, ℕ, ◌+◌, ◌<◌, ◌≤◌, Bool, true, false, not, eqb, ltb, leb, List, [], ◌∷◌, ◌++◌, map, length, get_or, take, Some, None, Ok, Err, Option, Result, sym, refl, ap, ◌∙◌, subst, arith}
+use Rattle.std.proofs.Common.{◌≡◌, ℕ, ◌+◌, ◌<◌, ◌≤◌, true, false, not, List, [], ◌∷◌, ◌++◌, map, length, get_or, take, None, Ok, Err, Option, Result, sym, refl, ap, ◌∙◌, subst, arith}
 use Rattle.std.proofs.lemmas.List.{length_push, length-map, length-take-le, get_or-map, take-map, map_more}
-use Rattle.std.proofs.lemmas.Bool.{lt-ltb, ne_eqb, le-leb, and_from, cond-true}
+use Rattle.std.proofs.lemmas.Bool.{lt-ltb, ne_eqb, le-leb, and_from}
 use Rattle.refusals.specs.declared.Refusal.{Refusal}
 use Rattle.refusals.specs.declared.Refusal.TheVariants.{NotACode, CodeTaken, Full, NoSuchUnit, SelfLink, NoWeight, OverLimit, NoSuchLink, BadMark}
 use Rattle.weights.specs.declared.weight.Weight.{Ghosts}
@@ -9,7 +9,7 @@ use Rattle.codes.specs.Code.{is_code}
 use Rattle.plans.specs.declared.plan.Link.{Link}
 use Rattle.plans.specs.declared.plan.Plan.{Plan}
 use Rattle.plans.specs.declared.plan.Unit.{Unit as Record}
-use Rattle.plans.specs.Calls.{Called, accepted, check, reply_of, after_of, enter_verdict, link_verdict, mark_verdict}
+use Rattle.plans.specs.Calls.{Called, accepted, reply_of, after_of, enter_verdict, link_verdict, mark_verdict}
 use Rattle.plans.specs.Model.{Model, model_of, code_of, amount_of, total_of, borne_by_other, changed, entered, linked, marked}
 use Rattle.plans.specs.Sound.{Joins}
 use Rattle.plans.proofs.Verdicts.{passes}

@@ -1,5 +1,5 @@
 -- Fields that were read where a cursor stands, and bytes put together from neighbouring pieces.
-use Rattle.std.proofs.Common.{◌≡◌, ℕ, zero, suc, ◌+◌, ◌<◌, List, [], ◌∷◌, ◌++◌, length, get_or, take, drop, IfOk, Option, Result, sym, refl, ap, ◌∙◌, subst, suc-add, zero-add, arith}
+use Rattle.std.proofs.Common.{◌≡◌, ℕ, zero, suc, ◌+◌, ◌<◌, List, [], ◌∷◌, ◌++◌, length, take, drop, IfOk, Option, Result, ap, ◌∙◌, subst, suc-add, zero-add}
 use Rattle.std.proofs.lemmas.List.{drop-drop, drop_more}
 use Rattle.refusals.specs.declared.Refusal.{Refusal}
 use Rattle.sheets.specs.declared.fault.Fault.{Fault}

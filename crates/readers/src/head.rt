@@ -14,6 +14,9 @@ use sheets::fault::{Fault, Part};
 use sheets::issue::Issue;
 use weights::weight::Weight;
 
+// The first three bytes of every sheet.
+pub const MAGIC: [u8; 3] = *b"HNW";
+
 // What the head tells: the issue, and how many units and links follow.
 #[derive(Clone, Copy)]
 pub struct Head {
@@ -39,7 +42,7 @@ fn read_magic(cursor: &mut Cursor) -> Result<(), Fault>
 {
     let place = cursor.place();
     let field = cursor.field(Part::Head, 3)?;
-    if field != b"HNW" {
+    if field != MAGIC.as_slice() {
         return Err(refused(Refusal::NotASheet, place));
     }
     Ok(())

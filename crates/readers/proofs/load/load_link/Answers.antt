@@ -1,6 +1,6 @@
-use Rattle.std.proofs.Common.{◌≡◌, false, length, Ok, Err, sym, refl, ap, ◌∙◌, subst}
+use Rattle.std.proofs.Common.{false, length, ap, ◌∙◌}
 use Rattle.plans.specs.Model.{linked, marked, model_of}
-use Rattle.plans.specs.Calls.{Called, link_verdict, mark_verdict}
+use Rattle.plans.specs.Calls.{link_verdict, mark_verdict}
 use Rattle.readers.proofs.Loading.{not_refused, does, answers, served, link_fine, mark_fine, in_service, out_of_service}
 use Rattle.readers.proofs.load.load_link.Goals as goal
 

@@ -1,4 +1,4 @@
-use Rattle.std.proofs.Common.{◌≡◌, ◌+◌, ◌<◌, length, Ok, Err, sym, refl, ap, ◌∙◌, subst, arith}
+use Rattle.std.proofs.Common.{◌≡◌, ◌+◌, ◌<◌, Ok, Err, sym, refl, ◌∙◌, subst, arith}
 use Rattle.plans.specs.Model.{model_of}
 use Rattle.sheets.specs.Fields.{link_fields, link_place, links_in, total_in, units_in}
 use Rattle.sheets.proofs.Firsts.{no_fault_lem}
@@ -15,8 +15,8 @@ loop-k-init g c =
     let s : Stands bs (link_place w bs 0) c.args.cursor.now = record { bytes = refl; place = c.requires.place ∙ first_link w bs } in
     filling_none w bs c.args.cursor.now c.args.plan.now s c.requires.sound c.requires.none
 
-pub read-link-requires : goal.read-link-requires
-read-link-requires g c =
+pub read_link-requires : goal.read_link-requires
+read_link-requires g c =
     let w = g.W.Weight in
     let k = c.loop-k.k in
     let back = sym c.loop-k.invariant.stands.bytes in
@@ -33,17 +33,17 @@ unreachable-requires g c =
     let bs = c.args.cursor.now.bytes.now in
     let k = c.loop-k.k in
     let d = c.in-Err.field-0 in
-    let v = subst (λ x. Reads w x (link_fields w x k) (Err d) c.read-link.new.cursor (link_place w x (k + 1)) (Linked w x k)) c.loop-k.invariant.stands.bytes c.in-Err.ensures in
+    let v = subst (λ x. Reads w x (link_fields w x k) (Err d) c.read_link.new.cursor (link_place w x (k + 1)) (Linked w x k)) c.loop-k.invariant.stands.bytes c.in-Err.ensures in
     let lt : k < links_in bs = omega (arith, c.requires.links) in
     no_fault_lem w bs (link_fields w bs k) d (clear_at w bs (link_fields w bs) (links_in bs) k lt c.requires.clear) v.taken
 
-pub load-link-requires : goal.load-link-requires
-load-link-requires g c =
+pub load_link-requires : goal.load_link-requires
+load_link-requires g c =
     let w = g.W.Weight in
     let bs = c.args.cursor.now.bytes.now in
     let k = c.loop-k.k in
     let l = c.in-Ok.link in
-    let a = c.read-link.new.cursor in
+    let a = c.read_link.new.cursor in
     let v = subst (λ x. Reads w x (link_fields w x k) (Ok c.in-Ok.link) a (link_place w x (k + 1)) (Linked w x k)) c.loop-k.invariant.stands.bytes c.in-Ok.ensures in
     record {
       sound = c.loop-k.invariant.sound;
@@ -58,9 +58,9 @@ loop-k-preserved g c =
     let bs = c.args.cursor.now.bytes.now in
     let k = c.loop-k.k in
     let l = c.in-Ok.link in
-    let a = c.read-link.new.cursor in
+    let a = c.read_link.new.cursor in
     let v = subst (λ x. Reads w x (link_fields w x k) (Ok c.in-Ok.link) a (link_place w x (k + 1)) (Linked w x k)) c.loop-k.invariant.stands.bytes c.in-Ok.ensures in
-    filling_more w bs k c.loop-k.cursor a c.loop-k.total (model_of c.args.plan.now) c.loop-k.plan l c.loop-k.invariant v c.load-link.new.plan c.amount-total.result c.load-link.ensures.sound c.load-link.ensures.model c.amount-total.ensures
+    filling_more w bs k c.loop-k.cursor a c.loop-k.total (model_of c.args.plan.now) c.loop-k.plan l c.loop-k.invariant v c.load_link.new.plan c.amount-total.result c.load_link.ensures.sound c.load_link.ensures.model c.amount-total.ensures
 
 pub returns : goal.returns
 returns g c =

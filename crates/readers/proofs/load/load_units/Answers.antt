@@ -1,4 +1,4 @@
-use Rattle.std.proofs.Common.{◌≡◌, [], map, length, refl, ap, ◌∙◌, arith}
+use Rattle.std.proofs.Common.{[], map, length, ap, ◌∙◌}
 use Rattle.std.proofs.lemmas.List.{take_all}
 use Rattle.plans.specs.Model.{code_of, entered, model_of}
 use Rattle.plans.specs.Calls.{enter_verdict}

@@ -5,16 +5,16 @@ use Rattle.readers.proofs.cursor.Cursor.four_bytes.Goals as goal
 pub returns : goal.returns
 returns c =
     let self = c.args.self.now in
-    let f = c.in-ok-field.ensures.took in
-    let len = c.in-ok-field.ensures.length in
-    let field = c.in-ok-field.field.now in
-    let n = c.from-le-bytes.result in
+    let f = c.in_ok-field.ensures.took in
+    let len = c.in_ok-field.ensures.length in
+    let field = c.in_ok-field.field.now in
+    let n = c.from_le_bytes.result in
     record {
       taken = (
         f.taken.0,
         (
-          four_in self.bytes.now field self.at n f.taken.1 c.from-le-bytes.ensures,
-          four_back self.bytes.now field self.at n f.taken.1 len (omega arith) (omega arith) (omega arith) (omega arith) c.from-le-bytes.ensures,
+          four_in self.bytes.now field self.at n f.taken.1 c.from_le_bytes.ensures,
+          four_back self.bytes.now field self.at n f.taken.1 len (omega arith) (omega arith) (omega arith) (omega arith) c.from_le_bytes.ensures,
         ),
       );
       moved = f.moved;
