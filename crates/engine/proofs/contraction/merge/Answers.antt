@@ -1,4 +1,4 @@
-use Rattle.std.proofs.Common.{◌+◌, ◌<◌, length, refl, ◌∙◌, arith}
+use Rattle.std.proofs.Common.{◌<◌, length, refl, arith}
 use Rattle.std.proofs.lemmas.List.{drop-set-lt}
 use Rattle.cuts.proofs.Names.{stands_less}
 use Rattle.engine.proofs.Merging.{merger_room, at_merged}

@@ -1,4 +1,4 @@
-use Rattle.std.proofs.Common.{◌≡◌, cond, eqb, get_or, ap, ◌∙◌, arith}
+use Rattle.std.proofs.Common.{cond, eqb, get_or, ap, ◌∙◌, arith}
 use Rattle.std.proofs.lemmas.List.{drop-set-lt}
 use Rattle.engine.proofs.Marked.{mark_more, mark_past}
 use Rattle.engine.proofs.marking.turn_over.Goals as goal
