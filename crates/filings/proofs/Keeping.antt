@@ -1,5 +1,5 @@
 -- Marks that are kept are those of a weakest division where those that were given are.
-use Rattle.std.proofs.Common.{◌≡◌, ℕ, ◌<◌, ◌≤◌, eqb, List, map, length, get_or, take, sym, ap, ◌∙◌, subst, arith}
+use Rattle.std.proofs.Common.{◌≡◌, ℕ, ◌<◌, eqb, List, map, length, get_or, take, sym, ap, ◌∙◌, arith}
 use Rattle.std.proofs.lemmas.List.{get_or-take}
 use Rattle.weights.specs.declared.weight.Weight.{Ghosts}
 use Rattle.weights.specs.Laws.{Laws}

@@ -1,5 +1,5 @@
 -- The links of a plan, parted at one of them.
-use Rattle.std.proofs.Common.{◌≡◌, ℕ, zero, suc, ◌<◌, List, [], ◌∷◌, ◌++◌, map, length, get_or, sym, refl, ap, ◌∙◌, arith}
+use Rattle.std.proofs.Common.{◌≡◌, ℕ, zero, suc, ◌<◌, List, [], ◌∷◌, ◌++◌, map, length, get_or, sym, refl, ap, arith}
 use Rattle.std.specs.List.{remove}
 use Rattle.plans.specs.declared.plan.Link.{Link}
 use Rattle.plans.specs.Model.{changed}

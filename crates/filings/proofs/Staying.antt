@@ -1,9 +1,9 @@
 -- Marks of a weakest division stay such marks by the edits of the table.
-use Rattle.std.proofs.Common.{◌≡◌, ℕ, zero, suc, ◌+◌, ◌<◌, ◌≤◌, Bool, true, false, cond, not, ◌&&◌, ◌||◌, eqb, ◌⊎◌, List, [], ◌∷◌, ◌++◌, map, length, get_or, take, sym, refl, ap, ◌∙◌, subst, inl, inr, ⊎_elim, arith, length-set}
+use Rattle.std.proofs.Common.{◌≡◌, ℕ, zero, suc, ◌+◌, ◌<◌, ◌≤◌, Bool, true, false, cond, not, ◌||◌, eqb, ◌⊎◌, List, [], ◌∷◌, ◌++◌, map, length, get_or, sym, refl, ap, ◌∙◌, subst, inl, inr, ⊎_elim, arith, length-set}
 use Rattle.std.specs.List.{AllByRecursion as All}
 use Rattle.std.proofs.ByRecursion.{all_from_every}
 use Rattle.std.proofs.lemmas.List.{get_or-take}
-use Rattle.std.proofs.lemmas.Bool.{both_ways, eqb-true, eqb-false, cases_Bool}
+use Rattle.std.proofs.lemmas.Bool.{both_ways, eqb-true}
 use Rattle.std.proofs.lemmas.Bool.Decides.{nat_tests}
 use Rattle.weights.specs.declared.weight.Weight.{Ghosts}
 use Rattle.weights.specs.Laws.{Laws, limit}
@@ -20,7 +20,7 @@ use Rattle.plans.specs.Divided.{valued, links_of, side_of}
 use Rattle.plans.specs.Sound.{Joins, Sound}
 use Rattle.plans.proofs.Linking.{unit_size, link_size_lem}
 use Rattle.filings.specs.declared.kept.Change.TheVariants.{Equal, Heavier, Lighter}
-use Rattle.filings.specs.Edits.{is_one_side, suits, change_of, outlives, strike_of, reweigh_of, mark_of, stays, recoding, linking, striking, reweighing, marking}
+use Rattle.filings.specs.Edits.{is_one_side, suits, outlives, strike_of, reweigh_of, mark_of, stays, striking, reweighing, marking}
 use Rattle.filings.specs.Filed.{Marks}
 use Rattle.filings.proofs.Parting.{Parted, parted, map_parts}
 

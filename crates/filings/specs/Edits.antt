@@ -1,5 +1,5 @@
 -- Which edits kept marks outlive.
-use Rattle.std.specs.Prelude.{ℕ, zero, suc, ◌<◌, Bool, true, false, cond, not, ◌&&◌, ◌||◌, List, [], ◌∷◌, ◌==◌, slice_index}
+use Rattle.std.specs.Prelude.{ℕ, zero, suc, ◌<◌, Bool, true, false, cond, not, ◌||◌, List, [], ◌∷◌, ◌==◌, slice_index}
 use Rattle.weights.specs.declared.weight.Weight.{Ghosts}
 use Rattle.plans.specs.declared.plan.Link.{Link as Joint}
 use Rattle.plans.specs.Model.{Model}

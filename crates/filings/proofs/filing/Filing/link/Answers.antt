@@ -1,4 +1,4 @@
-use Rattle.std.proofs.Common.{◌≡◌, true, ◌&&◌, length, sym, refl, ap, ◌∙◌}
+use Rattle.std.proofs.Common.{true, length, ap, ◌∙◌}
 use Rattle.plans.specs.declared.plan.Link.{Link}
 use Rattle.plans.specs.Model.{model_of, linked}
 use Rattle.filings.specs.Edits.{is_one_side}
@@ -14,7 +14,7 @@ returns g c =
     let a = c.args.first in
     let b = c.args.second in
     let l : Link g.row.W.Denot = record { first = a; second = b; in_service = true; weight = c.args.weight } in
-    let done = c.in-ok-link.ensures in
+    let done = c.in_ok-link.ensures in
     let settled = c.settle.ensures in
     let current = stays_current w f _ (is_one_side f.kept.sides a b) (linked l (model_of f.plan)) c.requires.plan done.sound (now_next done.called) settled.kept settled.sides
     (λ fair new marks stay. linked_stays w met.laws met.bounded (model_of f.plan) f.kept.sides fair marks l new stay) in

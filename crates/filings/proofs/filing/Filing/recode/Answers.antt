@@ -1,4 +1,4 @@
-use Rattle.std.proofs.Common.{◌≡◌, ◌&&◌, length, sym, refl, ap, ◌∙◌}
+use Rattle.std.proofs.Common.{length, ap, ◌∙◌}
 use Rattle.plans.specs.Model.{model_of, recoded}
 use Rattle.filings.specs.Edits.{outlives}
 use Rattle.filings.specs.declared.kept.Edit.TheVariants.{Recode}
@@ -11,7 +11,7 @@ returns g c =
     let w = g.W.Weight in
     let met = g.met.W.Weight in
     let f = c.args.self.now in
-    let done = c.in-ok-recode.ensures in
+    let done = c.in_ok-recode.ensures in
     let settled = c.settle.ensures in
     let current = stays_current w f _ (outlives f.kept.sides Recode) (recoded c.args.unit c.args.text.now (model_of f.plan)) c.requires.plan done.sound (now_next done.called) settled.kept settled.sides
     (λ fair new marks stay. recoded_stays w met.laws met.bounded (model_of f.plan) f.kept.sides fair marks c.args.unit c.args.text.now) in

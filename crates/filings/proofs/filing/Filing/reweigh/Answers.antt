@@ -1,4 +1,4 @@
-use Rattle.std.proofs.Common.{◌≡◌, ◌&&◌, length, sym, refl, ap, ◌∙◌}
+use Rattle.std.proofs.Common.{◌&&◌, length, ap, ◌∙◌}
 use Rattle.plans.specs.Model.{model_of, reweighed}
 use Rattle.filings.specs.Edits.{outlives, reweighing, stays, reweigh_of}
 use Rattle.filings.specs.declared.kept.Edit.TheVariants.{Reweigh}
@@ -13,9 +13,9 @@ returns g c =
     let f = c.args.self.now in
     let m = model_of f.plan in
     let k = c.args.link in
-    let old = c.in-ok-old.old in
-    let was = c.in-ok-old.ensures.value in
-    let done = c.in-ok-reweigh.ensures in
+    let old = c.in_ok-old.old in
+    let was = c.in_ok-old.ensures.value in
+    let done = c.in_ok-reweigh.ensures in
     let settled = c.settle.ensures in
     let kept = (settled.kept ∙ ap (λ h. f.kept.kept && outlives f.kept.sides (Reweigh old.first old.second old.in_service h)) c.change.ensures) ∙ ap (λ b. f.kept.kept && b) (outlives_it w f.plan c.requires.plan f.kept.sides (reweigh_of w c.args.weight) k old was.0 was.1) in
     let current = stays_current w f _ (stays w m f.kept.sides (reweighing k c.args.weight)) (reweighed k c.args.weight m) c.requires.plan done.sound (now_next done.called) kept settled.sides

@@ -1,4 +1,4 @@
-use Rattle.std.proofs.Common.{◌≡◌, ◌&&◌, length, sym, refl, ap, ◌∙◌}
+use Rattle.std.proofs.Common.{◌&&◌, length, ap, ◌∙◌}
 use Rattle.plans.specs.Model.{model_of, struck}
 use Rattle.filings.specs.Edits.{strike_of, stays, striking}
 use Rattle.filings.proofs.Staying.{struck_stays}
@@ -12,9 +12,9 @@ returns g c =
     let f = c.args.self.now in
     let m = model_of f.plan in
     let k = c.args.link in
-    let old = c.in-ok-old.old in
-    let was = c.in-ok-old.ensures.value in
-    let done = c.in-ok-strike.ensures in
+    let old = c.in_ok-old.old in
+    let was = c.in_ok-old.ensures.value in
+    let done = c.in_ok-strike.ensures in
     let settled = c.settle.ensures in
     let kept = settled.kept ∙ ap (λ b. f.kept.kept && b) (outlives_it w f.plan c.requires.plan f.kept.sides strike_of k old was.0 was.1) in
     let current = stays_current w f _ (stays w m f.kept.sides (striking k)) (struck k m) c.requires.plan done.sound (now_next done.called) kept settled.sides
