@@ -1,6 +1,3 @@
-pub mod Marked
-pub mod Merging
-pub mod Founds
-pub mod Sparing
-pub mod Rounds
-pub mod Works
+pub mod Counts
+pub mod Names
+pub mod Waiting

@@ -1,57 +1,79 @@
 // The work itself: pairs of groups are merged until two are left or best is nothing.
-ghost use Rattle.std.specs.Prelude.{◌≡◌, ℕ, ◌+◌, ◌<◌, ◌≤◌, true, false, not, List, [], length, take, drop, nat_eq, slice_index};
-ghost use Rattle.cuts.specs.Groups.{stands};
-ghost use Rattle.cuts.specs.Kinds.{kind_of};
-ghost use Rattle.cuts.specs.Links.{Link, Sound};
-ghost use Rattle.cuts.specs.Outcomes.{Outcome};
-ghost use Rattle.cuts.specs.Records.{best_weight, ended, merge as mergeAt, merge_found, merger as entry_of, Point, Work};
-ghost use Rattle.engine.specs.Progress.{At, Marks, Room, Spared};
-ghost use Rattle.queues.specs.Keys.{Empty};
-ghost use Rattle.scans.specs.Scanned.{pairs_of};
-ghost use Rattle.tables.specs.Meaning.{Holds, Tracks};
+ghost use Rattle.std.specs.Prelude.{◌≡◌, ℕ, ◌+◌, ◌*◌, ◌<◌, ◌≤◌, true, length, IfOk, OnOk};
 
+use crate::found::Found;
+use crate::groups::Groups;
 use crate::marking::{mark_group, turn_over};
-use crate::progress::Progress;
+use crate::pairs::first_pair;
+use crate::scan::scan;
+use crate::table::{entry, set_entry, set_joint};
 use cuts::entry::Entry;
 use cuts::ground::Ground;
-use passes::pairs::first_pair;
 use queues::queue::PriorityQueue;
-use rows::rows::{lightest, merge_rows};
-use scans::found::Found;
-use scans::scan::scan;
-use tables::groups::Groups;
-use tables::table::entry;
+use refusals::Refusal;
 use weights::weight::Weight;
+
+// What the work has come to: the lightest degree so far, and how many mergers and scans there were.
+#[derive(Clone, Copy)]
+pub struct Progress<W> {
+    pub best: W,
+    pub mergers: usize,
+    pub scans: usize,
+}
 
 // Whether work goes on: more than two groups are left, and best is above nothing.
 fn goes_on<W: Weight>(groups: &Groups, best: W) -> bool
-    ensures { (n : ℕ) (ls : List (Link W.Weight.Value)) (p : Point) → Tracks n p.done groups.now → W.Weight.value best ≡ best_weight (kind_of W.Weight) n ls p → ended (kind_of W.Weight) n ls p ≡ not result }
+    ensures { result ≡ true → 2 < groups.now.left }
 {
     groups.left() > 2 && !best.at_most(W::nothing())
 }
 
-// A group strictly lighter than best becomes best, and its units are marked.
-fn note_best<W: Weight>(
+// The lightest unit, the lowest number among equals.
+fn lightest<W: Weight>(table: &[W], n: usize) -> usize
+    requires some { 0 < n }
+    requires most { n ≤ 64 }
+    requires size { n * n ≤ length table.now }
+    ensures { result < n }
+{
+    let mut unit = 0;
+    for u in 1..n {
+        if !entry(table, n, unit, unit).at_most(entry(table, n, u, u)) {
+            unit = u;
+        }
+    }
+    unit
+}
+
+// Adds the row of `high` to that of `low`; the degree of `low` becomes that of both.
+fn merge_rows<W: Weight>(
+    table: &mut [W],
     groups: &Groups,
     n: usize,
-    group: usize,
-    degree: W,
-    progress: &mut Progress<W>,
-    marks: &mut [u8],
-)
+    low: usize,
+    high: usize,
+) -> Result<(), Refusal>
     requires units { groups.now.units ≡ n }
-    requires room { n ≤ length marks.old }
-    ensures kept { W.Weight.le (W.Weight.value progress.old.best) (W.Weight.value degree) ≡ true → (progress.new.best ≡ progress.old.best) × (marks.new ≡ marks.old) }
-    ensures lighter { W.Weight.le (W.Weight.value progress.old.best) (W.Weight.value degree) ≡ false → (progress.new.best ≡ degree) × Marks n (λ x. nat_eq (slice_index groups.now.names x) group) marks.new }
-    ensures mergers { progress.new.mergers ≡ progress.old.mergers }
-    ensures scans { progress.new.scans ≡ progress.old.scans }
-    ensures rest { drop n marks.new ≡ drop n marks.old }
+    requires size { n * n ≤ length table.old }
+    requires low { low < n }
+    requires high { high < n }
 {
-    if progress.best.at_most(degree) {
-        return;
+    let mut degree = W::nothing();
+    for w in 0..n {
+        if !groups.stands(w) {
+            continue;
+        }
+        if w == low {
+            continue;
+        }
+        if w == high {
+            continue;
+        }
+        let both = entry(table, n, low, w).sum(entry(table, n, high, w))?;
+        set_joint(table, n, low, w, both);
+        degree = degree.sum(both)?;
     }
-    progress.best = degree;
-    mark_group(groups, n, group, marks);
+    set_entry(table, n, low, low, degree);
+    Ok(())
 }
 
 // Merges the two groups of an entry and writes it. The merged group becomes best if its degree is strictly lighter.
@@ -63,36 +85,30 @@ fn merge<W: Weight>(
     progress: &mut Progress<W>,
     marks: &mut [u8],
     entries: &mut [Entry],
-)
-    requires room { Room n table.old marks.old entries.old }
-    requires less { merger.low < merger.high }
-    requires at { (ls : List (Link W.Weight.Value)) × (p : Point) × At W.Weight n ls p table.old groups.old progress.old marks.old entries.old × (stands n p.done merger.low ≡ true) × (stands n p.done merger.high ≡ true) }
-    ensures at { (ls : List (Link W.Weight.Value)) (p : Point) → At W.Weight n ls p table.old groups.old progress.old marks.old entries.old → stands n p.done merger.low ≡ true → stands n p.done merger.high ≡ true → At W.Weight n ls (mergeAt (kind_of W.Weight) n ls p merger) table.new groups.new progress.new marks.new entries.new }
-    ensures spared { Spared n progress.new.mergers table.old table.new marks.old marks.new entries.old entries.new }
-    ensures mergers { progress.new.mergers ≡ progress.old.mergers + 1 }
+) -> Result<(), Refusal>
+    requires units { groups.old.units ≡ n }
+    requires left { 0 < groups.old.left }
+    requires size { n * n ≤ length table.old }
+    requires low { merger.low < n }
+    requires high { merger.high < n }
+    requires marks { n ≤ length marks.old }
+    requires entries { progress.old.mergers < length entries.old }
+    ensures units { groups.new.units ≡ n }
+    ensures left { OnOk result (progress.new.mergers + groups.new.left ≡ progress.old.mergers + groups.old.left) }
     ensures scans { progress.new.scans ≡ progress.old.scans }
 {
     let low = merger.low as usize;
     let high = merger.high as usize;
-    merge_rows(table, groups, n, low, high);
+    merge_rows(table, groups, n, low, high)?;
     groups.join(low, high);
     entries[progress.mergers] = merger;
     progress.mergers += 1;
     let degree = entry(table, n, low, low);
-    note_best(groups, n, low, degree, progress, marks);
-}
-
-// The entry of a merger of two groups, the lower one first.
-fn merger_of(a: usize, b: usize, ground: Ground, scan: usize) -> Entry
-    requires { (a < 64) × ((b < 64) × (scan ≤ 64)) }
-    ensures { result ≡ entry_of a b ground scan }
-{
-    Entry {
-        low: a.min(b) as u8,
-        high: a.max(b) as u8,
-        ground,
-        scan: scan as u8,
+    if !progress.best.at_most(degree) {
+        progress.best = degree;
+        mark_group(groups, n, low, marks);
     }
+    Ok(())
 }
 
 // Merges the pairs that a scan found, in the order found, while work goes on.
@@ -104,13 +120,16 @@ fn merge_found<W: Weight>(
     progress: &mut Progress<W>,
     marks: &mut [u8],
     entries: &mut [Entry],
-)
-    requires room { Room n table.old marks.old entries.old }
+) -> Result<(), Refusal>
+    requires units { groups.old.units ≡ n }
     requires found { found.now.classes.units ≡ n }
+    requires size { n * n ≤ length table.old }
+    requires marks { n ≤ length marks.old }
+    requires entries { n ≤ length entries.old }
+    requires counted { progress.old.mergers + groups.old.left ≡ n }
     requires scans { progress.old.scans ≤ 64 }
-    requires at { (ls : List (Link W.Weight.Value)) × (p : Point) × At W.Weight n ls p table.old groups.old progress.old marks.old entries.old }
-    ensures at { (ls : List (Link W.Weight.Value)) (p : Point) → At W.Weight n ls p table.old groups.old progress.old marks.old entries.old → At W.Weight n ls (merge_found (kind_of W.Weight) n ls (pairs_of found.now) p) table.new groups.new progress.new marks.new entries.new }
-    ensures spared { Spared n progress.new.mergers table.old table.new marks.old marks.new entries.old entries.new }
+    ensures units { groups.new.units ≡ n }
+    ensures counted { OnOk result (progress.new.mergers + groups.new.left ≡ n) }
     ensures scans { progress.new.scans ≡ progress.old.scans }
 {
     for i in 0..found.count() {
@@ -123,9 +142,15 @@ fn merge_found<W: Weight>(
         if a == b {
             continue;
         }
-        let merger = merger_of(a, b, Ground::Scan, progress.scans);
-        merge(table, groups, n, merger, progress, marks, entries);
+        let merger = Entry {
+            low: a.min(b) as u8,
+            high: a.max(b) as u8,
+            ground: Ground::Scan,
+            scan: progress.scans as u8,
+        };
+        merge(table, groups, n, merger, progress, marks, entries)?;
     }
+    Ok(())
 }
 
 // One round: the first pair that meets a test is merged, or else the pairs that a scan finds.
@@ -137,30 +162,34 @@ fn round<W: Weight, Q: PriorityQueue<Weight = W>>(
     progress: &mut Progress<W>,
     marks: &mut [u8],
     entries: &mut [Entry],
-)
+) -> Result<(), Refusal>
     requires sound { Q.PriorityQueue.sound queue.old }
-    requires room { Room n table.old marks.old entries.old }
-    requires some { 2 ≤ n }
-    requires scans { progress.old.scans ≤ progress.old.mergers }
-    requires at { (ls : List (Link W.Weight.Value)) × (p : Point) × At W.Weight n ls p table.old groups.old progress.old marks.old entries.old × Work (kind_of W.Weight) n ls p × (ended (kind_of W.Weight) n ls p ≡ false) }
+    requires units { groups.old.units ≡ n }
+    requires left { 0 < groups.old.left }
+    requires size { n * n ≤ length table.old }
+    requires marks { n ≤ length marks.old }
+    requires entries { n ≤ length entries.old }
+    requires counted { progress.old.mergers + groups.old.left ≡ n }
+    requires scans { progress.old.scans < 64 }
     ensures sound { Q.PriorityQueue.sound queue.new }
-    ensures at { (ls : List (Link W.Weight.Value)) (p : Point) → At W.Weight n ls p table.old groups.old progress.old marks.old entries.old → Work (kind_of W.Weight) n ls p → ended (kind_of W.Weight) n ls p ≡ false → (q : Point) × At W.Weight n ls q table.new groups.new progress.new marks.new entries.new × Work (kind_of W.Weight) n ls q }
-    ensures more { progress.old.mergers < progress.new.mergers }
-    ensures scans { progress.new.scans ≤ progress.new.mergers }
-    ensures spared { Spared n progress.new.mergers table.old table.new marks.old marks.new entries.old entries.new }
-    ensures later { progress.old.scans ≤ progress.new.scans }
-    ensures unscanned { progress.new.scans ≡ progress.old.scans → queue.new ≡ queue.old }
-    ensures scanned { progress.old.scans < progress.new.scans → Empty (Q.PriorityQueue.key queue.new) }
+    ensures units { groups.new.units ≡ n }
+    ensures counted { OnOk result (progress.new.mergers + groups.new.left ≡ n) }
+    ensures scans { progress.new.scans ≤ progress.old.scans + 1 }
 {
-    match first_pair(table, groups, n, progress.best) {
+    match first_pair(table, groups, n, progress.best)? {
         Some((u, v, ground)) => {
-            let merger = merger_of(u, v, ground, 0);
-            merge(table, groups, n, merger, progress, marks, entries);
+            let merger = Entry {
+                low: u as u8,
+                high: v as u8,
+                ground,
+                scan: 0,
+            };
+            merge(table, groups, n, merger, progress, marks, entries)
         }
         None => {
             progress.scans += 1;
-            let found = scan(queue, table, groups, n, progress.best);
-            merge_found(table, groups, n, &found, progress, marks, entries);
+            let found = scan(queue, table, groups, n, progress.best)?;
+            merge_found(table, groups, n, &found, progress, marks, entries)
         }
     }
 }
@@ -172,17 +201,15 @@ pub fn contract<W: Weight, Q: PriorityQueue<Weight = W>>(
     n: usize,
     marks: &mut [u8],
     entries: &mut [Entry],
-) -> Progress<W>
+) -> Result<Progress<W>, Refusal>
     requires sound { Q.PriorityQueue.sound queue.old }
     requires some { 2 ≤ n }
-    requires room { Room n table.old marks.old entries.old }
-    requires holds { (ls : List (Link W.Weight.Value)) × Sound (kind_of W.Weight) n ls × Holds W.Weight n ls [] table.old }
+    requires most { n ≤ 64 }
+    requires size { n * n ≤ length table.old }
+    requires marks { n ≤ length marks.old }
+    requires entries { n ≤ length entries.old }
     ensures sound { Q.PriorityQueue.sound queue.new }
-    ensures outcome { (ls : List (Link W.Weight.Value)) → Sound (kind_of W.Weight) n ls → Holds W.Weight n ls [] table.old → Outcome (kind_of W.Weight) n ls (W.Weight.value result.best) marks.new (take result.mergers entries.new) result.scans }
-    ensures spared { Spared n result.mergers table.old table.new marks.old marks.new entries.old entries.new }
-    ensures mergers { result.mergers ≤ n }
-    ensures unscanned { result.scans ≡ 0 → queue.new ≡ queue.old }
-    ensures scanned { 0 < result.scans → Empty (Q.PriorityQueue.key queue.new) }
+    ensures mergers { IfOk result (λ p. p.mergers ≤ n) }
 {
     let mut groups = Groups::single(n);
     let unit = lightest(table, n);
@@ -192,9 +219,12 @@ pub fn contract<W: Weight, Q: PriorityQueue<Weight = W>>(
         mergers: 0,
         scans: 0,
     };
-    while goes_on(&groups, progress.best) {
-        round(queue, table, &mut groups, n, &mut progress, marks, entries);
+    for i in 0..n {
+        if !goes_on(&groups, progress.best) {
+            break;
+        }
+        round(queue, table, &mut groups, n, &mut progress, marks, entries)?;
     }
     turn_over(marks, n);
-    progress
+    Ok(progress)
 }

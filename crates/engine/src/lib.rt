@@ -2,5 +2,9 @@
 #![tactic(auto)]
 
 pub mod contraction;
+pub mod found;
+pub mod groups;
 pub mod marking;
-pub mod progress;
+pub mod pairs;
+pub mod scan;
+pub mod table;

@@ -1,4 +1,0 @@
-pub mod Parting
-pub mod Staying
-pub mod Settling
-pub mod Keeping

@@ -1,8 +1,5 @@
 -- Which edits kept marks outlive.
-use Rattle.std.specs.Prelude.{ℕ, zero, suc, ◌<◌, Bool, true, false, cond, not, ◌||◌, List, [], ◌∷◌, ◌==◌, slice_index}
-use Rattle.weights.specs.declared.weight.Weight.{Ghosts}
-use Rattle.plans.specs.declared.plan.Link.{Link as Joint}
-use Rattle.plans.specs.Model.{Model}
+use Rattle.std.specs.Prelude.{ℕ, ◌<◌, Bool, true, false, not, ◌&&◌, ◌||◌, List, ◌==◌, slice_index}
 use Rattle.filings.specs.declared.kept.Change.{Change}
 use Rattle.filings.specs.declared.kept.Change.TheVariants.{Equal, Heavier, Lighter}
 use Rattle.filings.specs.declared.kept.Edit.{Edit}
@@ -37,41 +34,3 @@ outlives sides (Link a b) = is_one_side sides a b
 outlives sides (Out a b s) = not s || not (is_one_side sides a b)
 outlives sides (In a b s) = s || is_one_side sides a b
 outlives sides (Reweigh a b s c) = not s || suits (is_one_side sides a b) c
-
--- how a new weight compares with the old one, by the order of the kind
-abbrev pub change_of : {W : Type 0} → Ghosts W → W → W → Change
-change_of g old new = cond (g.le (g.value old) (g.value new)) (cond (g.le (g.value new) (g.value old)) Equal Heavier) Lighter
-
--- an accepted call that edits a plan, with its arguments
-pub data Call (W : Type 0) : Type 0 where
-  entering : Call W
-  recoding : Call W
-  linking : ℕ → ℕ → Call W
-  striking : ℕ → Call W
-  reweighing : ℕ → W → Call W
-  marking : ℕ → ℕ → Call W
-
--- the edit that a call makes of a link, by the link as it was: struck, marked 0 or 1, or given another weight
-abbrev pub strike_of : {W : Type 0} → Joint W → Edit
-strike_of l = Out l.first l.second l.in_service
-
-abbrev pub mark_of : {W : Type 0} → ℕ → Joint W → Edit
-mark_of b l = cond (b == 0) (Out l.first l.second l.in_service) (In l.first l.second l.in_service)
-
-abbrev pub reweigh_of : {W : Type 0} → Ghosts W → W → Joint W → Edit
-reweigh_of g w l = Reweigh l.first l.second l.in_service (change_of g l.weight w)
-
--- whether marks outlive an edit of link number k
-abbrev pub outlive_at : {W : Type 0} → List ℕ → (Joint W → Edit) → List (Joint W) → ℕ → Bool
-outlive_at sides edit [] k = false
-outlive_at sides edit (l ∷ ls) zero = outlives sides (edit l)
-outlive_at sides edit (l ∷ ls) (suc k) = outlive_at sides edit ls k
-
--- whether the kept marks of a plan stay by a call
-abbrev pub stays : {W : Type 0} → Ghosts W → Model W → List ℕ → Call W → Bool
-stays g m sides entering = outlives sides Enter
-stays g m sides recoding = outlives sides Recode
-stays g m sides (linking a b) = outlives sides (Link a b)
-stays g m sides (striking k) = outlive_at sides strike_of m.links k
-stays g m sides (reweighing k w) = outlive_at sides (reweigh_of g w) m.links k
-stays g m sides (marking k b) = outlive_at sides (mark_of b) m.links k

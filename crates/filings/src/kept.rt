@@ -62,8 +62,7 @@ fn copy(to: &mut [u8], from: &[u8], n: usize)
 impl Kept {
     // No marks are kept.
     pub fn none() -> Kept
-        ensures kept { result.kept ≡ false }
-        ensures size { length result.sides ≡ 64 }
+        ensures { result.kept ≡ false }
     {
         Kept {
             kept: false,
@@ -147,7 +146,6 @@ impl Kept {
         requires size { n ≤ length marks.now }
         ensures kept { self.new.kept ≡ true }
         ensures sides { take n self.new.sides ≡ take n marks.now }
-        ensures size { length self.new.sides ≡ 64 }
     {
         copy(&mut self.sides, marks, n);
         self.kept = true;

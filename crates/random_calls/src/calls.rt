@@ -1,13 +1,13 @@
 // The calls, as they are made on a filing, and what is seen of each.
 ghost use Rattle.std.specs.Prelude.{◌≡◌, ℕ, ◌≤◌, IfOk, vec_len};
-ghost use Rattle.filings.specs.Filed.{Filed};
+ghost use Rattle.kept_plans.specs.Filed.{Filed};
 
 use crate::model::{Answered, Lent, Parts, Reply, UNTOUCHED};
 use answers::trial::trial;
 use answers::weakest::weakest;
 use cuts::entry::Entry;
 use cuts::ground::Ground;
-use filings::filing::Filing;
+use kept_plans::filing::Filing;
 use queues::list::{ListQueue, Slot};
 use queues::queue::{GROUPS, PriorityQueue};
 use refusals::Refusal;

@@ -1,10 +1,10 @@
 // What the model says to a call, and whether a filing's plan is the model's.
 ghost use Rattle.std.specs.Prelude.{ℕ, ◌≤◌};
-ghost use Rattle.filings.specs.Filed.{Filed};
+ghost use Rattle.kept_plans.specs.Filed.{Filed};
 
 use crate::calls::{Call, Outcome, parts_of};
 use crate::model::{Model, Parts, Reply, Wire, amount};
-use filings::filing::Filing;
+use kept_plans::filing::Filing;
 use plans::plan::{Link, Unit};
 use std::alloc::Global;
 use weights::weight::Weight;

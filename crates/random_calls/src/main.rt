@@ -3,13 +3,13 @@
 #![tactic(auto)]
 
 ghost use Rattle.std.specs.Prelude.{ℕ, ◌≤◌};
-ghost use Rattle.filings.specs.Filed.{Filed};
+ghost use Rattle.kept_plans.specs.Filed.{Filed};
 
 use crate::calls::{Call, filled, perform};
 use crate::compare::{expect, is_same};
 use crate::draws::{Dice, Kind, draw};
 use crate::model::{Model, Reply};
-use filings::filing::Filing;
+use kept_plans::filing::Filing;
 use plans::plan::{LINKS, Link};
 use weights::plain::Plain;
 use weights::ranked::Ranked;

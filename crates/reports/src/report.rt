@@ -4,7 +4,7 @@ ghost use Rattle.std.specs.Prelude.{◌≡◌, ℕ, ◌<◌, ◌≤◌, length, 
 use answers::weakest::weakest;
 use cuts::entry::Entry;
 use cuts::ground::Ground;
-use filings::filing::Filing;
+use kept_plans::filing::Filing;
 use plans::plan::{LINKS, Link, UNITS, Unit};
 use queues::list::{ListQueue, Slot};
 use queues::queue::GROUPS;

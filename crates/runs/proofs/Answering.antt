@@ -18,8 +18,8 @@ use Rattle.plans.specs.Model.{Model}
 use Rattle.plans.specs.Divided.{links_of, side_of}
 use Rattle.runs.specs.Steps.{State, Answer, Worked, Remembered}
 use Rattle.runs.specs.Promise.{RightAnswer, AlikePlans}
-use Rattle.filings.specs.Filed.{Marks}
-use Rattle.filings.proofs.Staying.{Fairly}
+use Rattle.kept_plans.specs.Filed.{Marks}
+use Rattle.kept_plans.proofs.Staying.{Fairly}
 
 mark_low : (b : Bool) → cond b 1 0 < 2
 mark_low true = omega arith

@@ -11,7 +11,7 @@ use Rattle.plans.specs.declared.plan.Link.{Link}
 use Rattle.plans.specs.Divided.{links_of}
 use Rattle.plans.specs.Model.{Model}
 use Rattle.plans.specs.Sound.{Joins}
-use Rattle.engine.specs.Progress.{Room}
+use Rattle.contractions.specs.Progress.{Room}
 use Rattle.solvers.specs.declared.answer.Answer.{Answer}
 use Rattle.solvers.specs.Answers.{WorkedOut, LeftBehind}
 

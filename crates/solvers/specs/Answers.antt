@@ -8,7 +8,7 @@ use Rattle.queues.specs.Keys.{Empty}
 use Rattle.plans.specs.Divided.{links_of}
 use Rattle.plans.specs.Model.{Model}
 use Rattle.tables.specs.Meaning.{value_at}
-use Rattle.engine.specs.Progress.{Spared}
+use Rattle.contractions.specs.Progress.{Spared}
 use Rattle.solvers.specs.declared.answer.Answer.{Answer}
 
 -- the answer was worked out for the plan m: the rules allow its record, which ends with its figure, marks and scans; so

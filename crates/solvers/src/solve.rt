@@ -3,7 +3,7 @@ ghost use Rattle.std.specs.Prelude.{◌≡◌, ℕ, ◌*◌, ◌<◌, ◌≤◌,
 ghost use Rattle.cuts.specs.Kinds.{kind_of};
 ghost use Rattle.cuts.specs.Links.{Link as Joint, Sound as Light};
 ghost use Rattle.cuts.specs.Outcomes.{Outcome};
-ghost use Rattle.engine.specs.Progress.{Room};
+ghost use Rattle.contractions.specs.Progress.{Room};
 ghost use Rattle.plans.specs.Model.{model_of};
 ghost use Rattle.plans.specs.Sound.{Sound};
 ghost use Rattle.solvers.specs.Answers.{LeftBehind, QueueLeft, WorkedOut};
@@ -11,7 +11,7 @@ ghost use Rattle.tables.specs.Meaning.{Holds};
 
 use crate::answer::Answer;
 use cuts::entry::Entry;
-use engine::contraction::contract;
+use contractions::contraction::contract;
 use fills::fill::{copy_marks, fill};
 use plans::plan::Plan;
 use queues::queue::PriorityQueue;

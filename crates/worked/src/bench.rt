@@ -1,12 +1,12 @@
 // What the tests share: filings over memory of their own, and what is seen of them.
 ghost use Rattle.std.specs.Prelude.{ℕ, ◌≤◌};
-ghost use Rattle.filings.specs.Filed.{Filed};
+ghost use Rattle.kept_plans.specs.Filed.{Filed};
 ghost use Rattle.weights.specs.contracts.plain.PlainWeight.TheImpl.{ghosts as plainKind};
 
 use crate::example::{CODES, LINKS, SHEET};
 use cuts::entry::Entry;
 use cuts::ground::Ground;
-use filings::filing::Filing;
+use kept_plans::filing::Filing;
 use plans::plan::Link;
 use queues::list::{ListQueue, Slot};
 use refusals::Refusal;

@@ -1,11 +1,11 @@
 // Weakest divisions, worked out by hand.
-ghost use Rattle.filings.specs.Filed.{Filed};
+ghost use Rattle.kept_plans.specs.Filed.{Filed};
 ghost use Rattle.weights.specs.contracts.ranked.RankedWeight.TheImpl.{ghosts as rankedKind};
 
 use crate::bench::*;
 use crate::example::{LINKS, RANKED_SHEET};
 use cuts::ground::Ground;
-use filings::filing::Filing;
+use kept_plans::filing::Filing;
 use plans::plan::Link;
 use queues::list::{ListQueue, Slot};
 use refusals::Refusal;

@@ -1,4 +1,4 @@
-use Rattle.filings.specs.Filed.{Filed}
+use Rattle.kept_plans.specs.Filed.{Filed}
 use Rattle.random_calls.proofs.run.Given as goal
 
 abbrev pub invariant-loop-turn : goal.invariant-loop-turn

@@ -1,17 +1,5 @@
-use Rattle.std.proofs.Common.{◌≡◌, List, take}
-use Rattle.cuts.specs.Kinds.{kind_of}
-use Rattle.cuts.specs.Links.{Link}
-use Rattle.cuts.specs.Records.{Point, merge_found}
-use Rattle.scans.specs.Scanned.{pairs_of}
-use Rattle.engine.specs.Progress.{At, Room, Spared}
+use Rattle.std.proofs.Common.{◌≡◌, ◌+◌, ◌≤◌, length}
 use Rattle.engine.proofs.contraction.merge_found.Given as goal
 
 abbrev pub invariant-loop-i : goal.invariant-loop-i
-invariant-loop-i g l =
-    let w = g.W.Weight in
-    Room l.n l.table l.marks l.entries
-    × ((ls : List (Link w.Value)) (p : Point)
-    → At w l.n ls p l.initial.table l.initial.groups l.initial.progress l.initial.marks l.initial.entries
-    → At w l.n ls (merge_found (kind_of w) l.n ls (take l.i (pairs_of l.found)) p) l.table l.groups l.progress l.marks l.entries)
-    × Spared l.n l.progress.mergers l.initial.table l.table l.initial.marks l.marks l.initial.entries l.entries
-    × (l.progress.scans ≡ l.initial.progress.scans)
+invariant-loop-i g l = (l.groups.units ≡ l.n) × (l.progress.mergers + l.groups.left ≡ l.n) × (l.progress.scans ≡ l.initial.progress.scans)

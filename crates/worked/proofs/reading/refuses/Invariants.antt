@@ -1,4 +1,4 @@
-use Rattle.filings.specs.Filed.{Filed}
+use Rattle.kept_plans.specs.Filed.{Filed}
 use Rattle.weights.specs.contracts.plain.PlainWeight.TheImpl.{ghosts as plainKind}
 use Rattle.worked.proofs.reading.refuses.Given as goal
 

@@ -1,0 +1,200 @@
+// The work itself: pairs of groups are merged until two are left or best is nothing.
+ghost use Rattle.std.specs.Prelude.{◌≡◌, ℕ, ◌+◌, ◌<◌, ◌≤◌, true, false, not, List, [], length, take, drop, nat_eq, slice_index};
+ghost use Rattle.cuts.specs.Groups.{stands};
+ghost use Rattle.cuts.specs.Kinds.{kind_of};
+ghost use Rattle.cuts.specs.Links.{Link, Sound};
+ghost use Rattle.cuts.specs.Outcomes.{Outcome};
+ghost use Rattle.cuts.specs.Records.{best_weight, ended, merge as mergeAt, merge_found, merger as entry_of, Point, Work};
+ghost use Rattle.contractions.specs.Progress.{At, Marks, Room, Spared};
+ghost use Rattle.queues.specs.Keys.{Empty};
+ghost use Rattle.scans.specs.Scanned.{pairs_of};
+ghost use Rattle.tables.specs.Meaning.{Holds, Tracks};
+
+use crate::marking::{mark_group, turn_over};
+use crate::progress::Progress;
+use cuts::entry::Entry;
+use cuts::ground::Ground;
+use passes::pairs::first_pair;
+use queues::queue::PriorityQueue;
+use rows::rows::{lightest, merge_rows};
+use scans::found::Found;
+use scans::scan::scan;
+use tables::groups::Groups;
+use tables::table::entry;
+use weights::weight::Weight;
+
+// Whether work goes on: more than two groups are left, and best is above nothing.
+fn goes_on<W: Weight>(groups: &Groups, best: W) -> bool
+    ensures { (n : ℕ) (ls : List (Link W.Weight.Value)) (p : Point) → Tracks n p.done groups.now → W.Weight.value best ≡ best_weight (kind_of W.Weight) n ls p → ended (kind_of W.Weight) n ls p ≡ not result }
+{
+    groups.left() > 2 && !best.at_most(W::nothing())
+}
+
+// A group strictly lighter than best becomes best, and its units are marked.
+fn note_best<W: Weight>(
+    groups: &Groups,
+    n: usize,
+    group: usize,
+    degree: W,
+    progress: &mut Progress<W>,
+    marks: &mut [u8],
+)
+    requires units { groups.now.units ≡ n }
+    requires room { n ≤ length marks.old }
+    ensures kept { W.Weight.le (W.Weight.value progress.old.best) (W.Weight.value degree) ≡ true → (progress.new.best ≡ progress.old.best) × (marks.new ≡ marks.old) }
+    ensures lighter { W.Weight.le (W.Weight.value progress.old.best) (W.Weight.value degree) ≡ false → (progress.new.best ≡ degree) × Marks n (λ x. nat_eq (slice_index groups.now.names x) group) marks.new }
+    ensures mergers { progress.new.mergers ≡ progress.old.mergers }
+    ensures scans { progress.new.scans ≡ progress.old.scans }
+    ensures rest { drop n marks.new ≡ drop n marks.old }
+{
+    if progress.best.at_most(degree) {
+        return;
+    }
+    progress.best = degree;
+    mark_group(groups, n, group, marks);
+}
+
+// Merges the two groups of an entry and writes it. The merged group becomes best if its degree is strictly lighter.
+fn merge<W: Weight>(
+    table: &mut [W],
+    groups: &mut Groups,
+    n: usize,
+    merger: Entry,
+    progress: &mut Progress<W>,
+    marks: &mut [u8],
+    entries: &mut [Entry],
+)
+    requires room { Room n table.old marks.old entries.old }
+    requires less { merger.low < merger.high }
+    requires at { (ls : List (Link W.Weight.Value)) × (p : Point) × At W.Weight n ls p table.old groups.old progress.old marks.old entries.old × (stands n p.done merger.low ≡ true) × (stands n p.done merger.high ≡ true) }
+    ensures at { (ls : List (Link W.Weight.Value)) (p : Point) → At W.Weight n ls p table.old groups.old progress.old marks.old entries.old → stands n p.done merger.low ≡ true → stands n p.done merger.high ≡ true → At W.Weight n ls (mergeAt (kind_of W.Weight) n ls p merger) table.new groups.new progress.new marks.new entries.new }
+    ensures spared { Spared n progress.new.mergers table.old table.new marks.old marks.new entries.old entries.new }
+    ensures mergers { progress.new.mergers ≡ progress.old.mergers + 1 }
+    ensures scans { progress.new.scans ≡ progress.old.scans }
+{
+    let low = merger.low as usize;
+    let high = merger.high as usize;
+    merge_rows(table, groups, n, low, high);
+    groups.join(low, high);
+    entries[progress.mergers] = merger;
+    progress.mergers += 1;
+    let degree = entry(table, n, low, low);
+    note_best(groups, n, low, degree, progress, marks);
+}
+
+// The entry of a merger of two groups, the lower one first.
+fn merger_of(a: usize, b: usize, ground: Ground, scan: usize) -> Entry
+    requires { (a < 64) × ((b < 64) × (scan ≤ 64)) }
+    ensures { result ≡ entry_of a b ground scan }
+{
+    Entry {
+        low: a.min(b) as u8,
+        high: a.max(b) as u8,
+        ground,
+        scan: scan as u8,
+    }
+}
+
+// Merges the pairs that a scan found, in the order found, while work goes on.
+fn merge_found<W: Weight>(
+    table: &mut [W],
+    groups: &mut Groups,
+    n: usize,
+    found: &Found,
+    progress: &mut Progress<W>,
+    marks: &mut [u8],
+    entries: &mut [Entry],
+)
+    requires room { Room n table.old marks.old entries.old }
+    requires found { found.now.classes.units ≡ n }
+    requires scans { progress.old.scans ≤ 64 }
+    requires at { (ls : List (Link W.Weight.Value)) × (p : Point) × At W.Weight n ls p table.old groups.old progress.old marks.old entries.old }
+    ensures at { (ls : List (Link W.Weight.Value)) (p : Point) → At W.Weight n ls p table.old groups.old progress.old marks.old entries.old → At W.Weight n ls (merge_found (kind_of W.Weight) n ls (pairs_of found.now) p) table.new groups.new progress.new marks.new entries.new }
+    ensures spared { Spared n progress.new.mergers table.old table.new marks.old marks.new entries.old entries.new }
+    ensures scans { progress.new.scans ≡ progress.old.scans }
+{
+    for i in 0..found.count() {
+        if !goes_on(groups, progress.best) {
+            break;
+        }
+        let (a, b) = found.pair(i);
+        let a = groups.of(a);
+        let b = groups.of(b);
+        if a == b {
+            continue;
+        }
+        let merger = merger_of(a, b, Ground::Scan, progress.scans);
+        merge(table, groups, n, merger, progress, marks, entries);
+    }
+}
+
+// One round: the first pair that meets a test is merged, or else the pairs that a scan finds.
+fn round<W: Weight, Q: PriorityQueue<Weight = W>>(
+    queue: &mut Q,
+    table: &mut [W],
+    groups: &mut Groups,
+    n: usize,
+    progress: &mut Progress<W>,
+    marks: &mut [u8],
+    entries: &mut [Entry],
+)
+    requires sound { Q.PriorityQueue.sound queue.old }
+    requires room { Room n table.old marks.old entries.old }
+    requires some { 2 ≤ n }
+    requires scans { progress.old.scans ≤ progress.old.mergers }
+    requires at { (ls : List (Link W.Weight.Value)) × (p : Point) × At W.Weight n ls p table.old groups.old progress.old marks.old entries.old × Work (kind_of W.Weight) n ls p × (ended (kind_of W.Weight) n ls p ≡ false) }
+    ensures sound { Q.PriorityQueue.sound queue.new }
+    ensures at { (ls : List (Link W.Weight.Value)) (p : Point) → At W.Weight n ls p table.old groups.old progress.old marks.old entries.old → Work (kind_of W.Weight) n ls p → ended (kind_of W.Weight) n ls p ≡ false → (q : Point) × At W.Weight n ls q table.new groups.new progress.new marks.new entries.new × Work (kind_of W.Weight) n ls q }
+    ensures more { progress.old.mergers < progress.new.mergers }
+    ensures scans { progress.new.scans ≤ progress.new.mergers }
+    ensures spared { Spared n progress.new.mergers table.old table.new marks.old marks.new entries.old entries.new }
+    ensures later { progress.old.scans ≤ progress.new.scans }
+    ensures unscanned { progress.new.scans ≡ progress.old.scans → queue.new ≡ queue.old }
+    ensures scanned { progress.old.scans < progress.new.scans → Empty (Q.PriorityQueue.key queue.new) }
+{
+    match first_pair(table, groups, n, progress.best) {
+        Some((u, v, ground)) => {
+            let merger = merger_of(u, v, ground, 0);
+            merge(table, groups, n, merger, progress, marks, entries);
+        }
+        None => {
+            progress.scans += 1;
+            let found = scan(queue, table, groups, n, progress.best);
+            merge_found(table, groups, n, &found, progress, marks, entries);
+        }
+    }
+}
+
+// Works out the least weight of a division over the n units of the table, and marks such a division.
+pub fn contract<W: Weight, Q: PriorityQueue<Weight = W>>(
+    queue: &mut Q,
+    table: &mut [W],
+    n: usize,
+    marks: &mut [u8],
+    entries: &mut [Entry],
+) -> Progress<W>
+    requires sound { Q.PriorityQueue.sound queue.old }
+    requires some { 2 ≤ n }
+    requires room { Room n table.old marks.old entries.old }
+    requires holds { (ls : List (Link W.Weight.Value)) × Sound (kind_of W.Weight) n ls × Holds W.Weight n ls [] table.old }
+    ensures sound { Q.PriorityQueue.sound queue.new }
+    ensures outcome { (ls : List (Link W.Weight.Value)) → Sound (kind_of W.Weight) n ls → Holds W.Weight n ls [] table.old → Outcome (kind_of W.Weight) n ls (W.Weight.value result.best) marks.new (take result.mergers entries.new) result.scans }
+    ensures spared { Spared n result.mergers table.old table.new marks.old marks.new entries.old entries.new }
+    ensures mergers { result.mergers ≤ n }
+    ensures unscanned { result.scans ≡ 0 → queue.new ≡ queue.old }
+    ensures scanned { 0 < result.scans → Empty (Q.PriorityQueue.key queue.new) }
+{
+    let mut groups = Groups::single(n);
+    let unit = lightest(table, n);
+    mark_group(&groups, n, unit, marks);
+    let mut progress = Progress {
+        best: entry(table, n, unit, unit),
+        mergers: 0,
+        scans: 0,
+    };
+    while goes_on(&groups, progress.best) {
+        round(queue, table, &mut groups, n, &mut progress, marks, entries);
+    }
+    turn_over(marks, n);
+    progress
+}

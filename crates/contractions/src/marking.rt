@@ -1,0 +1,48 @@
+// The marks of a division.
+ghost use Rattle.std.specs.Prelude.{◌≡◌, ℕ, ◌<◌, ◌≤◌, Bool, length, drop, if◌then◌else◌, nat_eq, slice_index};
+ghost use Rattle.cuts.specs.Divisions.{turned};
+ghost use Rattle.contractions.specs.Progress.{Marks};
+
+use tables::groups::Groups;
+
+// 1 for a unit of the group, 0 for another.
+fn mark_of(groups: &Groups, unit: usize, group: usize) -> u8
+    requires { unit < groups.now.units }
+    ensures { result ≡ (if nat_eq (slice_index groups.now.names unit) group then 1 else 0) }
+{
+    if groups.of(unit) == group { 1 } else { 0 }
+}
+
+// Marks the units of one group.
+pub fn mark_group(groups: &Groups, n: usize, group: usize, marks: &mut [u8])
+    requires units { groups.now.units ≡ n }
+    requires room { n ≤ length marks.old }
+    ensures marked { Marks n (λ x. nat_eq (slice_index groups.now.names x) group) marks.new }
+    ensures rest { drop n marks.new ≡ drop n marks.old }
+{
+    for unit in 0..n {
+        marks[unit] = mark_of(groups, unit, group);
+    }
+}
+
+// The mark of the other side.
+fn other_mark(mark: u8) -> u8
+    ensures { result ≡ (if nat_eq mark 0 then 1 else 0) }
+{
+    if mark == 0 { 1 } else { 0 }
+}
+
+// Turns the marks over where unit 0 is marked.
+pub fn turn_over(marks: &mut [u8], n: usize)
+    requires some { 0 < n }
+    requires room { n ≤ length marks.old }
+    ensures turned { (S : ℕ → Bool) → Marks n S marks.old → Marks n (turned S) marks.new }
+    ensures rest { drop n marks.new ≡ drop n marks.old }
+{
+    if marks[0] == 0 {
+        return;
+    }
+    for unit in 0..n {
+        marks[unit] = other_mark(marks[unit]);
+    }
+}

@@ -1,0 +1,4 @@
+pub mod Parting
+pub mod Staying
+pub mod Settling
+pub mod Keeping

@@ -1,0 +1,25 @@
+use Rattle.std.proofs.Common.{true, length, ap, ◌∙◌}
+use Rattle.plans.specs.declared.plan.Link.{Link}
+use Rattle.plans.specs.Model.{model_of, linked}
+use Rattle.kept_plans.specs.Edits.{is_one_side}
+use Rattle.kept_plans.proofs.Staying.{linked_stays}
+use Rattle.kept_plans.proofs.Settling.{now_next, stays_current}
+use Rattle.kept_plans.proofs.filing.Filing.link.Goals as goal
+
+pub returns : goal.returns
+returns g c =
+    let w = g.W.Weight in
+    let met = g.met.W.Weight in
+    let f = c.args.self.now in
+    let a = c.args.first in
+    let b = c.args.second in
+    let l : Link g.row.W.Denot = record { first = a; second = b; in_service = true; weight = c.args.weight } in
+    let done = c.in_ok-link.ensures in
+    let settled = c.settle.ensures in
+    let current = stays_current w f _ (is_one_side f.kept.sides a b) (linked l (model_of f.plan)) c.requires.plan done.sound (now_next done.called) settled.kept settled.sides
+    (λ fair new marks stay. linked_stays w met.laws met.bounded (model_of f.plan) f.kept.sides fair marks l new stay) in
+    record {
+      filed = record { plan = done.sound; sides = ap length settled.sides ∙ c.requires.sides; current = current c.requires.current };
+      called = done.called;
+      kept = (settled.kept, settled.sides);
+    }

@@ -1,0 +1,26 @@
+use Rattle.std.proofs.Common.{◌&&◌, length, ap, ◌∙◌}
+use Rattle.plans.specs.Model.{model_of, struck}
+use Rattle.kept_plans.specs.Edits.{strike_of, stays, striking}
+use Rattle.kept_plans.proofs.Staying.{struck_stays}
+use Rattle.kept_plans.proofs.Settling.{in_model, now_next, outlives_it, stays_current}
+use Rattle.kept_plans.proofs.filing.Filing.strike.Goals as goal
+
+pub returns : goal.returns
+returns g c =
+    let w = g.W.Weight in
+    let met = g.met.W.Weight in
+    let f = c.args.self.now in
+    let m = model_of f.plan in
+    let k = c.args.link in
+    let old = c.in_ok-old.old in
+    let was = c.in_ok-old.ensures.value in
+    let done = c.in_ok-strike.ensures in
+    let settled = c.settle.ensures in
+    let kept = settled.kept ∙ ap (λ b. f.kept.kept && b) (outlives_it w f.plan c.requires.plan f.kept.sides strike_of k old was.0 was.1) in
+    let current = stays_current w f _ (stays w m f.kept.sides (striking k)) (struck k m) c.requires.plan done.sound (now_next done.called) kept settled.sides
+    (λ fair new marks stay. struck_stays w met.laws met.bounded m f.kept.sides fair marks k (in_model w f.plan c.requires.plan k old was.0 was.1).0 new stay) in
+    record {
+      filed = record { plan = done.sound; sides = ap length settled.sides ∙ c.requires.sides; current = current c.requires.current };
+      called = done.called;
+      kept = (kept, settled.sides);
+    }

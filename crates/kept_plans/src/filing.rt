@@ -1,0 +1,217 @@
+// A plan with the marks that it keeps.
+ghost use Rattle.std.specs.Prelude.{◌≡◌, ◌<◌, ◌≤◌, true, false, [], length, take, IfErr, OnOk, ◌==◌};
+ghost use Rattle.plans.specs.Calls.{Answered, Called, enter_verdict, link_verdict, mark_verdict, most_links, recode_verdict, reweigh_verdict, strike_verdict};
+ghost use Rattle.plans.specs.Divided.{weigh_verdict, weighed};
+ghost use Rattle.plans.specs.Marks.{Shows, Untouched};
+ghost use Rattle.plans.specs.Model.{entered, linked, marked, model_of, recoded, reweighed, struck};
+ghost use Rattle.sheets.specs.Faults.{FirstFault};
+ghost use Rattle.sheets.specs.Fields.{issue_in};
+ghost use Rattle.sheets.specs.Format.{sheet_of, Valid};
+ghost use Rattle.kept_plans.specs.Edits.{change_of, entering, linking, mark_of, marking, recoding, reweighing, stays, striking, Within};
+ghost use Rattle.kept_plans.specs.Filed.{Filed, Marks, Settled};
+
+use crate::kept::{Change, Edit, Kept};
+use plans::plan::{Link, Plan};
+use readers::read;
+use refusals::Refusal;
+use sheets::fault::Fault;
+use weights::weight::Weight;
+
+#[derive(Drop)]
+pub struct Filing<'a, W> {
+    plan: Plan<'a, W>,
+    kept: Kept,
+}
+
+// How a weight compares with one before it.
+fn change<W: Weight>(before: W, after: W) -> Change
+    ensures { result ≡ change_of W.Weight before after }
+{
+    match (before.at_most(after), after.at_most(before)) {
+        (true, true) => Change::Equal,
+        (true, false) => Change::Heavier,
+        (false, _) => Change::Lighter,
+    }
+}
+
+// The edit that a mark, 0 or 1, makes of a link.
+fn mark_edit<W: Weight>(link: Link<W>, mark: u8) -> Edit
+    requires { (link.first < 64) × (link.second < 64) }
+    ensures edit { result ≡ mark_of mark link }
+    ensures within { Within result }
+{
+    let first = link.first as usize;
+    let second = link.second as usize;
+    let in_service = link.in_service;
+    match mark {
+        0 => Edit::Out {
+            first,
+            second,
+            in_service,
+        },
+        _ => Edit::In {
+            first,
+            second,
+            in_service,
+        },
+    }
+}
+
+impl<'a, W: Weight> Filing<'a, W> {
+    // A filing with no units, no links and no kept marks; `Plan::check` tells whether the memory suffices.
+    pub fn open(links: &'a mut [Link<W>]) -> Filing<'a, W>
+        requires { most_links ≤ length links.old }
+        ensures filed { Filed W.Weight result }
+        ensures model { model_of result.plan ≡ record { codes = []; links = [] } }
+        ensures memory { result.plan.links.now ≡ links.old }
+        ensures none { result.kept.kept ≡ false }
+    {
+        Filing {
+            plan: Plan::open(links),
+            kept: Kept::none(),
+        }
+    }
+
+    pub fn plan(&self) -> &Plan<'a, W>
+        ensures { result.now ≡ self.now.plan }
+    {
+        &self.plan
+    }
+
+    pub fn kept(&self) -> &Kept
+        ensures { result.now ≡ self.now.kept }
+    {
+        &self.kept
+    }
+
+    // Adds a unit with the given code and answers its number: 7, 8, 6.
+    pub fn enter(&mut self, text: &[u8]) -> Result<usize, Refusal>
+        requires { Filed W.Weight self.old }
+        ensures filed { Filed W.Weight self.new }
+        ensures called { Called (enter_verdict (model_of self.old.plan) text.now) (length (model_of self.old.plan).codes) (entered text.now (model_of self.old.plan)) self.old.plan result self.new.plan }
+        ensures kept { Settled (stays W.Weight (model_of self.old.plan) self.old.kept.sides entering) self.old result self.new }
+    {
+        let unit = self.plan.enter(text)?;
+        self.kept.settle(Edit::Enter);
+        Ok(unit)
+    }
+
+    // Gives a unit another code: 9, 7, 8.
+    pub fn recode(&mut self, unit: usize, text: &[u8]) -> Result<(), Refusal>
+        requires { Filed W.Weight self.old }
+        ensures filed { Filed W.Weight self.new }
+        ensures called { Called (recode_verdict (model_of self.old.plan) unit text.now) tt (recoded unit text.now (model_of self.old.plan)) self.old.plan result self.new.plan }
+        ensures kept { Settled (stays W.Weight (model_of self.old.plan) self.old.kept.sides recoding) self.old result self.new }
+    {
+        self.plan.recode(unit, text)?;
+        self.kept.settle(Edit::Recode);
+        Ok(())
+    }
+
+    // Replaces the whole plan by that of a sheet, or tells the first fault.
+    pub fn read(&mut self, bytes: &[u8]) -> Result<(), Fault>
+        requires { Filed W.Weight self.old }
+        ensures filed { Filed W.Weight self.new }
+        ensures sheet { OnOk result ((bytes.now ≡ sheet_of W.Weight (issue_in bytes.now) (model_of self.new.plan)) × Valid W.Weight (issue_in bytes.now) (model_of self.new.plan)) }
+        ensures kept { OnOk result ((self.new.kept.kept ≡ false) × (self.new.kept.sides ≡ self.old.kept.sides)) }
+        ensures fault { IfErr result (λ e. FirstFault W.Weight bytes.now e × (self.new ≡ self.old)) }
+    {
+        read::read(bytes, &mut self.plan)?;
+        self.kept.settle(Edit::Read);
+        Ok(())
+    }
+
+    // Removes a link; later links move down by one: 13.
+    pub fn strike(&mut self, link: usize) -> Result<(), Refusal>
+        requires { Filed W.Weight self.old }
+        ensures filed { Filed W.Weight self.new }
+        ensures called { Called (strike_verdict (model_of self.old.plan) link) tt (struck link (model_of self.old.plan)) self.old.plan result self.new.plan }
+        ensures kept { Settled (stays W.Weight (model_of self.old.plan) self.old.kept.sides (striking link)) self.old result self.new }
+    {
+        let old = self.plan.link_at(link)?;
+        self.plan.strike(link)?;
+        self.kept.settle(Edit::Out {
+            first: old.first as usize,
+            second: old.second as usize,
+            in_service: old.in_service,
+        });
+        Ok(())
+    }
+
+    // Adds a link in service between two units and answers its number: 9, 10, 11, 6, 12.
+    pub fn link(&mut self, first: usize, second: usize, weight: W) -> Result<usize, Refusal>
+        requires { Filed W.Weight self.old }
+        ensures filed { Filed W.Weight self.new }
+        ensures called { Called (link_verdict (model_of self.old.plan) W.Weight first second weight) (length (model_of self.old.plan).links) (linked (record { first = first; second = second; in_service = true; weight = weight }) (model_of self.old.plan)) self.old.plan result self.new.plan }
+        ensures kept { Settled (stays W.Weight (model_of self.old.plan) self.old.kept.sides (linking first second)) self.old result self.new }
+    {
+        let link = self.plan.link(first, second, weight)?;
+        self.kept.settle(Edit::Link { first, second });
+        Ok(link)
+    }
+
+    // Gives a link another weight: 13, 11, 12.
+    pub fn reweigh(&mut self, link: usize, weight: W) -> Result<(), Refusal>
+        requires { Filed W.Weight self.old }
+        ensures filed { Filed W.Weight self.new }
+        ensures called { Called (reweigh_verdict (model_of self.old.plan) W.Weight link weight) tt (reweighed link weight (model_of self.old.plan)) self.old.plan result self.new.plan }
+        ensures kept { Settled (stays W.Weight (model_of self.old.plan) self.old.kept.sides (reweighing link weight)) self.old result self.new }
+    {
+        let old = self.plan.link_at(link)?;
+        self.plan.reweigh(link, weight)?;
+        self.kept.settle(Edit::Reweigh {
+            first: old.first as usize,
+            second: old.second as usize,
+            in_service: old.in_service,
+            change: change(old.weight, weight),
+        });
+        Ok(())
+    }
+
+    // Sets a link in service (1) or out of service (0): 13, 14.
+    pub fn mark(&mut self, link: usize, mark: u8) -> Result<(), Refusal>
+        requires { Filed W.Weight self.old }
+        ensures filed { Filed W.Weight self.new }
+        ensures called { Called (mark_verdict (model_of self.old.plan) link mark) tt (marked link (mark == 1) (model_of self.old.plan)) self.old.plan result self.new.plan }
+        ensures kept { Settled (stays W.Weight (model_of self.old.plan) self.old.kept.sides (marking link mark)) self.old result self.new }
+    {
+        let old = self.plan.link_at(link)?;
+        self.plan.mark(link, mark)?;
+        self.kept.settle(mark_edit(old, mark));
+        Ok(())
+    }
+
+    // The weight of the division that one byte for each unit marks: 15, 14, 15.
+    pub fn weigh(&self, marks: &[u8]) -> Result<W, Refusal>
+        requires { Filed W.Weight self.now }
+        ensures { Answered (weigh_verdict (model_of self.now.plan) marks.now) W.Weight.value (weighed W.Weight (model_of self.now.plan) marks.now) result }
+    {
+        self.plan.weigh(marks)
+    }
+
+    // Keeps the marks of the plan's units, which are those of a weakest division.
+    pub fn keep(&mut self, marks: &[u8])
+        requires filed { Filed W.Weight self.old }
+        requires marks { Marks W.Weight (model_of self.old.plan) marks.now }
+        requires size { self.old.plan.unit_count ≤ length marks.now }
+        ensures filed { Filed W.Weight self.new }
+        ensures plan { self.new.plan ≡ self.old.plan }
+        ensures kept { self.new.kept.kept ≡ true }
+        ensures sides { take self.old.plan.unit_count self.new.kept.sides ≡ take self.old.plan.unit_count marks.now }
+    {
+        let n = self.plan.unit_count();
+        self.kept.keep(marks, n);
+    }
+
+    // Writes back the marks of all links, as they were copied out; kept marks are not touched.
+    pub fn put_marks(&mut self, marks: &[u8])
+        requires filed { Filed W.Weight self.old }
+        requires size { self.old.plan.link_count ≤ length marks.now }
+        requires shows { Shows marks.now (model_of self.old.plan).links }
+        ensures filed { Filed W.Weight self.new }
+        ensures kept { self.new.kept ≡ self.old.kept }
+        ensures same { Untouched self.old.plan self.new.plan }
+    {
+        self.plan.put_marks(marks);
+    }
+}
