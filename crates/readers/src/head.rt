@@ -11,11 +11,9 @@ use crate::cursor::Cursor;
 use plans::plan::{LINKS, UNITS};
 use refusals::Refusal;
 use sheets::fault::{Fault, Part};
+use sheets::head::MAGIC;
 use sheets::issue::Issue;
 use weights::weight::Weight;
-
-// The first three bytes of every sheet.
-pub const MAGIC: [u8; 3] = *b"HNW";
 
 // What the head tells: the issue, and how many units and links follow.
 #[derive(Clone, Copy)]

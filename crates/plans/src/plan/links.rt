@@ -158,6 +158,7 @@ impl<'a, W: Weight> Plan<'a, W> {
         requires sound { Sound W.Weight self.old }
         requires size { self.old.link_count ≤ length marks.now }
         ensures sound { Sound W.Weight self.new }
+        ensures units { self.new.unit_count ≡ self.old.unit_count }
         ensures remarked { Remarked marks.now self.old self.new }
         ensures same { Shows marks.now (model_of self.old).links → Untouched self.old self.new }
     {

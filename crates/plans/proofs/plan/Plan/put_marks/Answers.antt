@@ -23,4 +23,4 @@ returns g c =
     let all : c.loop-i.i ≡ before.link_count = omega arith in
     let m = subst (λ i. MarkedTo marks before i c.loop-i.self) all c.loop-i.invariant.1 in
     let r = marked_all marks before c.loop-i.self m in
-    record { sound = c.loop-i.invariant.0; remarked = r; same = λ shows. remarked_same g.W.Weight marks before c.loop-i.self c.requires.sound shows r }
+    record { sound = c.loop-i.invariant.0; units = r.unit_count; remarked = r; same = λ shows. remarked_same g.W.Weight marks before c.loop-i.self c.requires.sound shows r }
