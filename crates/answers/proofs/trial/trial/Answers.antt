@@ -8,13 +8,13 @@ returns g c =
     let w = g.W.Weight in
     let f = c.args.filing.now in
     let is = c.plan-plan.ensures in
-    let units = c.unit-count-n.ensures.units ∙ ap (λ p. length (model_of p).codes) is in
+    let units = c.unit_count-n.ensures.units ∙ ap (λ p. length (model_of p).codes) is in
     let links = c.link_count.ensures.links ∙ ap (λ p. length (model_of p).links) is in
-    let e = c.solve-without.ensures in
+    let e = c.solve_without.ensures in
     record {
       filed = e.filed;
       sound = e.sound;
-      verdict = trial_accepted (model_of f.plan) c.unit-count-n.result units _ _ _ c.args.link (let h = c.if-link-link-count.false in omega arith) c.in-ok-check-room.ensures.enough;
+      verdict = trial_accepted (model_of f.plan) c.unit_count-n.result units _ _ _ c.args.link (let h = c.if-link-link_count.false in omega arith) c.in_ok-check_room.ensures.enough;
       tried = e.tried;
       least = promised_least w _ _ _ _ e.tried.answer.promised;
       refused = tt;

@@ -10,9 +10,9 @@ returns g c =
     let w = g.W.Weight in
     let f = c.args.filing.now in
     let m = model_of f.plan in
-    let n = c.unit-count-n.result in
+    let n = c.unit_count-n.result in
     let is = c.plan-plan.ensures in
-    let units = c.unit-count-n.ensures.units ∙ ap (λ p. length (model_of p).codes) is in
+    let units = c.unit_count-n.ensures.units ∙ ap (λ p. length (model_of p).codes) is in
     let kept = ap (λ k. k.sides) c.kept.ensures in
     let front = c.write.ensures.front ∙ ap (take n) kept in
     record {

@@ -7,18 +7,18 @@ use Rattle.answers.proofs.Outcomes.{outcome_marks}
 use Rattle.answers.proofs.Replies.{both_ways, kept_least, promised_least, weakest_accepted}
 use Rattle.answers.proofs.weakest.weakest.Goals as goal
 
-pub returns-then-is-kept : goal.returns-then-is-kept
-returns-then-is-kept g c =
+pub returns-then-is_kept : goal.returns-then-is_kept
+returns-then-is_kept g c =
     let w = g.W.Weight in
     let f = c.args.filing.now in
     let m = model_of f.plan in
-    let units = c.unit-count-n.ensures.units ∙ ap (λ p. length (model_of p).codes) c.plan.ensures in
-    let kept = sym (ap (λ k. k.kept) c.kept.ensures) ∙ sym c.is-kept.ensures ∙ c.if-is-kept.true in
-    let e = c.answer-kept.ensures in
+    let units = c.unit_count-n.ensures.units ∙ ap (λ p. length (model_of p).codes) c.plan.ensures in
+    let kept = sym (ap (λ k. k.kept) c.kept.ensures) ∙ sym c.is_kept.ensures ∙ c.if-is_kept.true in
+    let e = c.answer_kept.ensures in
     record {
       filed = c.requires.filed;
       sound = c.requires.queue;
-      verdict = weakest_accepted m c.unit-count-n.result units _ _ _ c.if-n-lt2.false c.in-ok-check-room.ensures.enough;
+      verdict = weakest_accepted m c.unit_count-n.result units _ _ _ c.if-n-lt2.false c.in_ok-check_room.ensures.enough;
       kept = λ _. record { kept = e.kept; mergers = e.mergers; scans = e.scans; figure = e.figure; front = e.front; rest = e.rest; entries = refl; weights = refl; filing = refl };
       worked = λ out. both_ways f.kept.kept kept out;
       least = kept_least w m _ _ g.met.W.Weight.laws (fair_plan w f.plan c.requires.filed.plan) f.kept.sides (c.requires.filed.current kept) e.front e.figure;
@@ -31,14 +31,14 @@ keep-requires g c =
     let w = g.W.Weight in
     let f = c.args.filing.now in
     let m = model_of f.plan in
-    let units = c.unit-count-n.ensures.units ∙ ap (λ p. length (model_of p).codes) c.plan.ensures in
+    let units = c.unit_count-n.ensures.units ∙ ap (λ p. length (model_of p).codes) c.plan.ensures in
     let e = c.solve-answer.ensures in
     let two : 2 ≤ length m.codes = let h = c.if-n-lt2.false in omega arith in
     let answer : WorkedOut w m c.solve-answer.result c.solve-answer.new.marks c.solve-answer.new.entries = subst (λ p. WorkedOut w (model_of p) c.solve-answer.result c.solve-answer.new.marks c.solve-answer.new.entries) c.plan-2.ensures e.answer in
     record {
       filed = c.requires.filed;
       marks = outcome_marks w g.met.W.Weight.laws m (fair_plan w f.plan c.requires.filed.plan) two _ c.solve-answer.new.marks _ _ answer.allowed;
-      size = let u = unit_size w f.plan c.requires.filed.plan in let r = c.in-ok-check-room.ensures.room.0 in let k = c.solve-answer.auto.marks in omega arith;
+      size = let u = unit_size w f.plan c.requires.filed.plan in let r = c.in_ok-check_room.ensures.room.0 in let k = c.solve-answer.auto.marks in omega arith;
     }
 
 pub returns : goal.returns
@@ -46,15 +46,15 @@ returns g c =
     let w = g.W.Weight in
     let f = c.args.filing.now in
     let m = model_of f.plan in
-    let units = c.unit-count-n.ensures.units ∙ ap (λ p. length (model_of p).codes) c.plan.ensures in
-    let out = sym (ap (λ k. k.kept) c.kept.ensures) ∙ sym c.is-kept.ensures ∙ c.if-is-kept.false in
+    let units = c.unit_count-n.ensures.units ∙ ap (λ p. length (model_of p).codes) c.plan.ensures in
+    let out = sym (ap (λ k. k.kept) c.kept.ensures) ∙ sym c.is_kept.ensures ∙ c.if-is_kept.false in
     let e = c.solve-answer.ensures in
     let is = c.plan-2.ensures in
     let answer : WorkedOut w m c.solve-answer.result c.solve-answer.new.marks c.solve-answer.new.entries = subst (λ p. WorkedOut w (model_of p) c.solve-answer.result c.solve-answer.new.marks c.solve-answer.new.entries) is e.answer in
     record {
       filed = c.keep.ensures.filed;
       sound = e.sound;
-      verdict = weakest_accepted m c.unit-count-n.result units _ _ _ c.if-n-lt2.false c.in-ok-check-room.ensures.enough;
+      verdict = weakest_accepted m c.unit_count-n.result units _ _ _ c.if-n-lt2.false c.in_ok-check_room.ensures.enough;
       kept = λ kept. both_ways f.kept.kept kept out;
       worked = λ _. record {
         answer = answer;
