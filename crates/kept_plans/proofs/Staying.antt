@@ -1,6 +1,6 @@
 -- Marks of a weakest division stay such marks by the edits of the table.
 use Rattle.std.proofs.Common.{◌≡◌, ℕ, zero, suc, ◌+◌, ◌<◌, ◌≤◌, Bool, true, false, cond, not, ◌||◌, eqb, ◌⊎◌, List, [], ◌∷◌, ◌++◌, map, length, get_or, sym, refl, ap, ◌∙◌, subst, inl, inr, ⊎_elim, arith, length-set}
-use Rattle.std.specs.List.{AllByRecursion as All}
+use Rattle.std.specs.List.{AllByRecursion}
 use Rattle.std.proofs.ByRecursion.{all_from_every}
 use Rattle.std.proofs.lemmas.List.{get_or-take}
 use Rattle.std.proofs.lemmas.Bool.{both_ways, eqb-true}
@@ -70,7 +70,7 @@ module _ {W : Type 0} (g : Ghosts W) where
   total_values [] = refl
   total_values (l ∷ ls) = ap (λ n. g.size (g.value l.weight) + n) (total_values ls)
 
-  ends_values : (n : ℕ) (ls : List (Link W)) → All (Joins g n) ls → Ends n (map (valued g) ls)
+  ends_values : (n : ℕ) (ls : List (Link W)) → AllByRecursion (Joins g n) ls → Ends n (map (valued g) ls)
   unfolding Ends
   ends_values n [] a = tt
   ends_values n (l ∷ ls) a = (a.0.first, a.0.second, ends_values n ls a.1)
@@ -79,7 +79,7 @@ module _ {W : Type 0} (g : Ghosts W) where
   fair_plan p s =
       let ls = (model_of p).links in
       let size = link_size_lem g p s in
-      let all : All (Joins g p.unit_count) ls = all_from_every (Joins g p.unit_count) ls (λ k d low high.
+      let all : AllByRecursion (Joins g p.unit_count) ls = all_from_every (Joins g p.unit_count) ls (λ k d low high.
       let h : k < p.link_count = omega arith in
       subst (Joins g p.unit_count) (sym (get_or-take p.link_count p.links.now k d h)) (s.joins k d low h)) in
       let t = total_values ls in

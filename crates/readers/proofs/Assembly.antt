@@ -1,6 +1,6 @@
 -- A sheet without faults is the sheet of the plan that is made from it.
 use Rattle.std.proofs.Common.{◌≡◌, ℕ, zero, suc, ◌+◌, ◌*◌, ◌<◌, ◌≤◌, Bool, true, false, cond, eqb, List, [], ◌∷◌, ◌++◌, length, get_or, take, drop, Some, None, Option, sym, refl, ap, ◌∙◌, subst, ap₂, ⊎_elim, suc-mul, zero-mul, add-one, arith}
-use Rattle.std.specs.List.{flat_map, AllByRecursion as All}
+use Rattle.std.specs.List.{flat_map, AllByRecursion}
 use Rattle.std.proofs.ByRecursion.{All-map, All-push, all_from_every}
 use Rattle.std.proofs.lemmas.List.{take_all, take_more, length-map, length-take, length-take-le, length-drop, length_push, get_or-take, get_or_push, get_or_append_left, take-append-le, flat_map_more}
 use Rattle.std.proofs.lemmas.Bool.{cases_Bool, cases_lt, cond-true, cond-false, eq-eqb, eqb-true, not-true}
@@ -68,7 +68,7 @@ module _ (bs : List ℕ) where
       (get_or_push (texts_in bs n) (text_in bs n) [] k (size ∙ s) ∙ ap (text_in bs) s, take-append-le k (texts_in bs n) (text_in bs n ∷ []) (omega arith) ∙ (take_all k (texts_in bs n) (omega arith) ∙ ap (texts_in bs) s)))
       (cases_lt k n)
 
-  pub texts_fit : (n : ℕ) → All (λ text. length text ≤ size_of_code (issue_in bs)) (texts_in bs n)
+  pub texts_fit : (n : ℕ) → AllByRecursion (λ text. length text ≤ size_of_code (issue_in bs)) (texts_in bs n)
   texts_fit zero = tt
   texts_fit (suc n) =
       All-push (λ text. length text ≤ size_of_code (issue_in bs)) (texts_in bs n) (text_in bs n) (texts_fit n)
@@ -137,7 +137,7 @@ module _ {W : Type 0} (g : Ghosts W) (bs : List ℕ) where
       (ap (λ p. bytes_at bs p ls) first ∙ loaded.bytes)))))
 
 -- a plan that is sound is within the rules
-pub valid : {W : Type 0} (g : Ghosts W) (i : Issue) (p : Plan W) → Sound g p → All (λ text. length text ≤ size_of_code i) (model_of p).codes → Valid g i (model_of p)
+pub valid : {W : Type 0} (g : Ghosts W) (i : Issue) (p : Plan W) → Sound g p → AllByRecursion (λ text. length text ≤ size_of_code i) (model_of p).codes → Valid g i (model_of p)
 valid g i p s fit =
     let us = take p.unit_count p.units in
     let n : length (model_of p).codes ≡ p.unit_count = length-map us code_of ∙ length-take-le p.unit_count p.units (let a = s.few in let b = s.table in omega arith) in
@@ -154,6 +154,6 @@ valid g i p s fit =
       limited = let a = s.counted in let b = s.limited in omega arith;
     }
   where
-    are-codes : (us : List Record) → All (λ u. is_code (code_of u) ≡ true) us
+    are-codes : (us : List Record) → AllByRecursion (λ u. is_code (code_of u) ≡ true) us
     are-codes [] = tt
     are-codes (u ∷ us) = (u.code.code, are-codes us)

@@ -1,6 +1,6 @@
 -- Adding one link of a right sheet after the other.
 use Rattle.std.proofs.Common.{◌≡◌, ℕ, zero, suc, ◌+◌, ◌*◌, ◌<◌, ◌≤◌, List, [], ◌∷◌, ◌++◌, length, None, Ok, sym, refl, ap, ◌∙◌, subst, ⊎_elim, add-mul, one-mul, zero-mul, add-one, arith}
-use Rattle.std.specs.List.{flat_map, AllByRecursion as All}
+use Rattle.std.specs.List.{flat_map, AllByRecursion}
 use Rattle.std.proofs.lemmas.List.{flat_map_more, length_push}
 use Rattle.std.proofs.lemmas.Bool.{cases_lt}
 use Rattle.weights.specs.declared.weight.Weight.{Ghosts}
@@ -30,11 +30,11 @@ pub record Filling {W : Type 0} (g : Ghosts W) (bs : List ℕ) (k : ℕ) (c : Cu
   pub sums : total_of g (model_of p).links ≡ total
   pub bytes : bytes_at bs (link_place g bs 0) (k * link_size g) ≡ flat_map (link_bytes g) (model_of p).links
 
-all_left : {A : Type 0} (P : A → Type 0) (a b : List A) → All P (a ++ b) → All P a
+all_left : {A : Type 0} (P : A → Type 0) (a b : List A) → AllByRecursion P (a ++ b) → AllByRecursion P a
 all_left P [] b h = tt
 all_left P (x ∷ a) b h = (h.0, all_left P a b h.1)
 
-all_right : {A : Type 0} (P : A → Type 0) (a b : List A) → All P (a ++ b) → All P b
+all_right : {A : Type 0} (P : A → Type 0) (a b : List A) → AllByRecursion P (a ++ b) → AllByRecursion P b
 all_right P [] b h = h
 all_right P (x ∷ a) b h = all_right P a b h.1
 

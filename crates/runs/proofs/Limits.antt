@@ -1,6 +1,6 @@
 -- Plans within their limits, over which no sum is refused; every edit leaves them so.
 use Rattle.std.proofs.Common.{◌≡◌, ℕ, ◌+◌, ◌<◌, ◌≤◌, Bool, true, not, List, [], ◌∷◌, ◌++◌, map, length, sym, refl, ap, ◌∙◌, subst, arith, length-set}
-use Rattle.std.specs.List.{remove, AllByRecursion as All}
+use Rattle.std.specs.List.{remove, AllByRecursion}
 use Rattle.std.proofs.ByRecursion.{All-append, All-push, All-weaker}
 use Rattle.std.proofs.lemmas.List.{length_push}
 use Rattle.std.proofs.lemmas.Bool.Decides.{nat_tests}
@@ -19,11 +19,11 @@ use Rattle.kept_plans.proofs.Parting.{Parted, parted}
 use Rattle.kept_plans.proofs.Staying.{Fairly}
 
 -- what holds of the parts of a list
-all_front : {X : Type 0} (P : X → Type 0) (xs ys : List X) → All P (xs ++ ys) → All P xs
+all_front : {X : Type 0} (P : X → Type 0) (xs ys : List X) → AllByRecursion P (xs ++ ys) → AllByRecursion P xs
 all_front P [] ys a = tt
 all_front P (x ∷ xs) ys a = (a.0, all_front P xs ys a.1)
 
-all_back : {X : Type 0} (P : X → Type 0) (xs ys : List X) → All P (xs ++ ys) → All P ys
+all_back : {X : Type 0} (P : X → Type 0) (xs ys : List X) → AllByRecursion P (xs ++ ys) → AllByRecursion P ys
 all_back P [] ys a = a
 all_back P (x ∷ xs) ys a = all_back P xs ys a.1
 
@@ -47,14 +47,14 @@ module _ {W : Type 0} (g : Ghosts W) where
   total_values [] = refl
   total_values (l ∷ ls) = ap (λ n. g.size (g.value l.weight) + n) (total_values ls)
 
-  ends_values : (n : ℕ) (ls : List (Link W)) → All (Joins g n) ls → Ends n (map (valued g) ls)
+  ends_values : (n : ℕ) (ls : List (Link W)) → AllByRecursion (Joins g n) ls → Ends n (map (valued g) ls)
   unfolding Ends
   ends_values n [] a = tt
   ends_values n (l ∷ ls) a = (a.0.first, a.0.second, ends_values n ls a.1)
 
   -- the links join units of the plan, and their amounts keep the limit
   pub record Within (m : Model W) : Type 0 where
-    pub joins : All (Joins g (length m.codes)) m.links
+    pub joins : AllByRecursion (Joins g (length m.codes)) m.links
     pub limited : total_of g m.links ≤ most_total
 
   pub fair_within : (m : Model W) → Within m → Fairly g m
@@ -82,7 +82,7 @@ module _ {W : Type 0} (g : Ghosts W) where
     pub recoded_within : (k : ℕ) (text : List ℕ) → Within g (recoded k text m)
     recoded_within k text =
         let e = length-set m.codes k text in
-        record { joins = subst (λ n. All (Joins g n) m.links) (sym e) within.joins; limited = within.limited }
+        record { joins = subst (λ n. AllByRecursion (Joins g n) m.links) (sym e) within.joins; limited = within.limited }
 
     pub linked_within : (a b : ℕ) (w : W) → link_verdict m g a b w ≡ accepted → Within g (linked (record { first = a; second = b; in_service = true; weight = w }) m)
     linked_within a b w e =
@@ -100,7 +100,7 @@ module _ {W : Type 0} (g : Ghosts W) where
       at = parted m.links k there
 
       abbrev Joined : List (Link W) → Type 0
-      Joined ls = All (Joins g (length m.codes)) ls
+      Joined ls = AllByRecursion (Joins g (length m.codes)) ls
 
       all_joined : Joined (at.front ++ (at.here ∷ at.back))
       all_joined = subst Joined at.all within.joins

@@ -1,6 +1,6 @@
 -- A sheet is that of one plan only.
 use Rattle.std.proofs.Common.{◌≡◌, ℕ, zero, suc, ◌+◌, ◌/◌, ◌%◌, ◌^◌, ◌<◌, ◌≤◌, Bool, true, false, cond, eqb, ◌⊎◌, List, [], ◌∷◌, ◌++◌, length, get_or, sym, refl, ap, ◌∙◌, subst, inl, inr, ⊎_elim, arith}
-use Rattle.std.specs.List.{flat_map, AllByRecursion as All}
+use Rattle.std.specs.List.{flat_map, AllByRecursion}
 use Rattle.std.proofs.lemmas.List.{append_assoc, append_cancel_right, append-nil, length_push, get_or_push}
 use Rattle.std.proofs.lemmas.Bool.{cond-true, cond-false, eq-eqb, ne_eqb, cases_eq, cases_lt}
 use Rattle.std.proofs.lemmas.Bool.Decides.{nat_tests}
@@ -36,7 +36,7 @@ module _ {X : Type 0} where
 
 -- fields of one size, each of which tells what it stands for
 module _ {X : Type 0} (f : X → List ℕ) (n : ℕ) (P : X → Type 0) (sized : (x : X) → P x → length (f x) ≡ n) (tells-one : (x y : X) → P x → P y → f x ≡ f y → x ≡ y) where
-  fields_same : (xs ys : List X) (us vs : List ℕ) → All P xs → All P ys → length xs ≡ length ys → flat_map f xs ++ us ≡ flat_map f ys ++ vs → (xs ≡ ys) × (us ≡ vs)
+  fields_same : (xs ys : List X) (us vs : List ℕ) → AllByRecursion P xs → AllByRecursion P ys → length xs ≡ length ys → flat_map f xs ++ us ≡ flat_map f ys ++ vs → (xs ≡ ys) × (us ≡ vs)
   fields_same [] [] us vs p q l e = (refl, e)
   fields_same [] (y ∷ ys) us vs p q l e = absurd (omega arith)
   fields_same (x ∷ xs) [] us vs p q l e = absurd (omega arith)
@@ -55,11 +55,11 @@ two_same a b la lb p q = omega arith
 four_same : (a b : ℕ) → a < 4294967296 → b < 4294967296 → a % 256 ≡ b % 256 → a / 256 % 256 ≡ b / 256 % 256 → a / 65536 % 256 ≡ b / 65536 % 256 → a / 16777216 % 256 ≡ b / 16777216 % 256 → a ≡ b
 four_same a b la lb p q r s = omega arith
 
-all_both : {X : Type 0} (P Q : X → Type 0) (xs : List X) → All P xs → All Q xs → All (λ x. P x × Q x) xs
+all_both : {X : Type 0} (P Q : X → Type 0) (xs : List X) → AllByRecursion P xs → AllByRecursion Q xs → AllByRecursion (λ x. P x × Q x) xs
 all_both P Q [] p q = tt
 all_both P Q (x ∷ xs) p q = ((p.0, q.0), all_both P Q xs p.1 q.1)
 
-all_any : {X : Type 0} (xs : List X) → All (λ _. Unit {0}) xs
+all_any : {X : Type 0} (xs : List X) → AllByRecursion (λ _. Unit {0}) xs
 all_any [] = tt
 all_any (x ∷ xs) = (tt, all_any xs)
 

@@ -1,7 +1,7 @@
 -- A run keeps its promise: one induction over its turns, which carries that the plan is within its limits and that kept marks
 -- are those of a weakest division.
 use Rattle.std.proofs.Common.{◌≡◌, ℕ, ◌^◌, ◌<◌, ◌≤◌, Bool, true, false, ◌&&◌, eqb, List, [], ◌∷◌, length, get_or, Some, None, vec_items, Option, sym, refl, ap, ◌∙◌, subst, inl, inr, ⊎_elim, arith}
-use Rattle.std.specs.List.{AllByRecursion as All}
+use Rattle.std.specs.List.{AllByRecursion}
 use Rattle.std.proofs.ByRecursion.{all-has, All-weaker}
 use Rattle.std.proofs.lemmas.List.{get_or-take}
 use Rattle.std.proofs.lemmas.Bool.{both_ways}
@@ -193,7 +193,7 @@ module _ {W : Type 0} (g : Ghosts W) where
       replied : Replies g x.plan x.call x.reply
       answers : (m : Model W) (a : Answer W) → Says g x m a → Fine m a
 
-    good : (xs : List (Turn W)) (s t : State W) → Holds s → Follows g s xs t → All Good xs
+    good : (xs : List (Turn W)) (s t : State W) → Holds s → Follows g s xs t → AllByRecursion Good xs
     good [] s t h f = tt
     good (x ∷ xs) s t h f =
         let u = f.1.0 in
@@ -206,7 +206,7 @@ module _ {W : Type 0} (g : Ghosts W) where
         )
 
     module _ (exact : Exact g.arity g.of g.nth) (narrow : (x : W) (i : ℕ) → g.nth (g.value x) i < 2 ^ 32) (told : (x y : W) → g.value x ≡ g.value y → x ≡ y) where
-      same : (xs ys : List (Turn W)) → All Good xs → All Good ys → SameFigures g xs ys
+      same : (xs ys : List (Turn W)) → AllByRecursion Good xs → AllByRecursion Good ys → SameFigures g xs ys
       same xs ys p q x y m o a b hx hy sx sy alike =
           let c = (all-has Good xs x p hx).answers m a sx in
           let d = (all-has Good ys y q hy).answers o b sy in

@@ -1,6 +1,6 @@
 -- The promise over any list of calls.
 use Rattle.std.specs.Prelude.{◌≡◌, ℕ, ◌+◌, ◌<◌, ◌≤◌, Bool, true, false, List, [], map, length, take, Some, slice_index}
-use Rattle.std.specs.List.{ContainsAt as Has, AllByRecursion as All}
+use Rattle.std.specs.List.{ContainsAt as Has, AllByRecursion}
 use Rattle.weights.specs.declared.weight.Weight.{Ghosts}
 use Rattle.cuts.specs.Kinds.{kind_of, AtMost, above}
 use Rattle.cuts.specs.Divisions.{Division, weight_of}
@@ -58,9 +58,9 @@ module _ {W : Type 0} (g : Ghosts W) where
     -- and it is the only one that does, by the calls and replies
     pub only : (others : List (Turn W)) → map (λ x. x.call) others ≡ map (λ x. x.call) turns → map (λ x. x.reply) others ≡ map (λ x. x.reply) turns → Led g opened others → others ≡ turns
     -- each call is accepted or refused as the rules say for the plan at that call, and answers are such as the rules allow there
-    pub replies : All (λ x. Replies g x.plan x.call x.reply) turns
+    pub replies : AllByRecursion (λ x. Replies g x.plan x.call x.reply) turns
     -- each answer is right for the plan at its call, for trial with its link out
-    pub answers : All (λ x. (m : Model W) (a : Answer W) → Says x m a → RightAnswer m a) turns
+    pub answers : AllByRecursion (λ x. (m : Model W) (a : Answer W) → Says x m a → RightAnswer m a) turns
     -- any two answers on alike plans state the same figure, in this run
     pub same : SameFigures turns turns
     -- and between this run and any other, whichever queues served and whether marks were kept or not

@@ -1,6 +1,6 @@
 -- First faults: there is at most one, and how those of two runs of fields join.
 use Rattle.std.proofs.Common.{◌≡◌, ℕ, zero, suc, ◌+◌, ◌<◌, List, [], ◌∷◌, ◌++◌, Some, None, Option, sym, refl, ap, ◌∙◌, ⊎_elim, add-one, arith}
-use Rattle.std.specs.List.{AllByRecursion as All}
+use Rattle.std.specs.List.{AllByRecursion}
 use Rattle.std.proofs.ByRecursion.{All-append}
 use Rattle.std.proofs.lemmas.List.{append_assoc}
 use Rattle.std.proofs.lemmas.Bool.{cases_lt}
@@ -12,7 +12,7 @@ use Rattle.sheets.specs.Faults.{fault_of, Faultless, FirstIn}
 pub none_some : {A : Type 0} {o : Option A} {x : A} → o ≡ None → o ≡ Some x → ⊥
 none_some {A} {o} {x} p q = let z : ◌≡◌ {A = ℕ} 0 1 = cc in omega arith
 
-all_mid : {A : Type 0} (P : A → Type 0) (a : List A) (x : A) (b : List A) → All P (a ++ (x ∷ b)) → P x
+all_mid : {A : Type 0} (P : A → Type 0) (a : List A) (x : A) (b : List A) → AllByRecursion P (a ++ (x ∷ b)) → P x
 all_mid P [] x b h = h.0
 all_mid P (y ∷ a) x b h = all_mid P a x b h.1
 

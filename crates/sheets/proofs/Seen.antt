@@ -1,7 +1,7 @@
 -- The bytes of a plan's sheet, seen as fields.
 use Rattle.std.proofs.Common.{◌≡◌, ℕ, zero, suc, ◌+◌, ◌-◌, ◌*◌, ◌/◌, ◌%◌, ◌^◌, ◌<◌, ◌≤◌, true, eqb, ◌⊎◌, List, [], ◌∷◌, ◌++◌, length, get_or, take, drop, sym, refl, ap, ◌∙◌, ap₂, ⊎_elim, suc-mul, add_comm, zero-mul, add-one, arith}
 use native.Mathlib.Nat.{div-div-eq-div-mul}
-use Rattle.std.specs.List.{flat_map, AllByRecursion as All}
+use Rattle.std.specs.List.{flat_map, AllByRecursion}
 use Rattle.std.proofs.ByRecursion.{All-get_or}
 use Rattle.std.proofs.lemmas.List.{append_assoc, take_at, drop_at, take_more, drop-drop, get_or-take, get_or-drop, get_or_at, get_or_append_left, get_or-append_right, length-append, length_push}
 use Rattle.std.proofs.lemmas.Bool.{cond-true, cond-false, eq-eqb, ne_eqb, cases_lt}
@@ -21,11 +21,11 @@ byte_in bs field at n i e h = sym (get_or-drop at bs i 0) ∙ (sym (get_or-take 
 
 -- pieces of one size: where the k-th stands
 module _ {X : Type 0} (f : X → List ℕ) (s : ℕ) where
-  pub length_joined : (xs : List X) → All (λ x. length (f x) ≡ s) xs → length (flat_map f xs) ≡ length xs * s
+  pub length_joined : (xs : List X) → AllByRecursion (λ x. length (f x) ≡ s) xs → length (flat_map f xs) ≡ length xs * s
   length_joined [] h = sym (zero-mul s)
   length_joined (x ∷ xs) h = let r = length_joined xs h.1 in let e = h.0 in let m = suc-mul (length xs) s in let a = length-append (f x) (flat_map f xs) in omega arith
 
-  pub piece_at : (xs : List X) (rest : List ℕ) (k : ℕ) (d : X) → All (λ x. length (f x) ≡ s) xs → k < length xs → take s (drop (k * s) (flat_map f xs ++ rest)) ≡ f (get_or xs k d)
+  pub piece_at : (xs : List X) (rest : List ℕ) (k : ℕ) (d : X) → AllByRecursion (λ x. length (f x) ≡ s) xs → k < length xs → take s (drop (k * s) (flat_map f xs ++ rest)) ≡ f (get_or xs k d)
   piece_at [] rest k d h lt = absurd (omega arith)
   piece_at (x ∷ xs) rest zero d h lt =
       ap (λ n. take s (drop n ((f x ++ flat_map f xs) ++ rest))) (zero-mul s)
@@ -120,11 +120,11 @@ module _ {W : Type 0} (g : Ghosts W) (i : Issue) (m : Model W) (v : Valid g i m)
   sized : (text : List ℕ) → (is_code text ≡ true) × (length text ≤ size_of_code i) → length (code_field i text) ≡ size_of_code i
   sized text h = length_field i text h.0 h.1
 
-  all_sized : (texts : List (List ℕ)) → All (λ text. is_code text ≡ true) texts → All (λ text. length text ≤ size_of_code i) texts → All (λ text. length (code_field i text) ≡ size_of_code i) texts
+  all_sized : (texts : List (List ℕ)) → AllByRecursion (λ text. is_code text ≡ true) texts → AllByRecursion (λ text. length text ≤ size_of_code i) texts → AllByRecursion (λ text. length (code_field i text) ≡ size_of_code i) texts
   all_sized [] a b = tt
   all_sized (t ∷ ts) a b = (length_field i t a.0 b.0, all_sized ts a.1 b.1)
 
-  links_sized : (xs : List (Link W)) → All (λ l. length (link_bytes g l) ≡ link_size g) xs
+  links_sized : (xs : List (Link W)) → AllByRecursion (λ l. length (link_bytes g l) ≡ link_size g) xs
   links_sized [] = tt
   links_sized (l ∷ xs) = (let e = length_fours (g.nth (g.value l.weight)) g.arity in omega arith, links_sized xs)
 

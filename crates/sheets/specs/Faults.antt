@@ -1,6 +1,6 @@
 -- What is wrong with a field, and the first fault of a sheet in the order of its bytes.
 use Rattle.std.specs.Prelude.{◌≡◌, ℕ, ◌+◌, not, ◌||◌, List, ◌∷◌, ◌++◌, length, Some, None, Option, ◌==◌, nat_le, nat_lt}
-use Rattle.std.specs.List.{AllByRecursion as All}
+use Rattle.std.specs.List.{AllByRecursion}
 use Rattle.refusals.specs.declared.Refusal.{Refusal}
 use Rattle.refusals.specs.declared.Refusal.TheVariants.{NotASheet, UnknownIssue, OtherKind, Truncated, TrailingBytes, Full, NotACode, CodeTaken, NoSuchUnit, SelfLink, NoWeight, OverLimit, BadMark}
 use Rattle.weights.specs.declared.weight.Weight.{Ghosts}
@@ -73,7 +73,7 @@ module _ {W : Type 0} (g : Ghosts W) (bs : List ℕ) where
 
   -- none of the fields has a fault
   abbrev pub Faultless : List Field → Type 0
-  Faultless fs = All (λ f. fault_of f ≡ None) fs
+  Faultless fs = AllByRecursion (λ f. fault_of f ≡ None) fs
 
   -- the first fault of these fields, in their order: one field has it, and no field before that has any
   pub record FirstIn (fs : List Field) (e : Fault) : Type 0 where

@@ -1,6 +1,6 @@
 -- The sheet of a plan: its bytes, from the plan and the issue.
 use Rattle.std.specs.Prelude.{◌≡◌, ℕ, zero, suc, ◌+◌, ◌*◌, ◌/◌, ◌%◌, ◌≤◌, true, cond, List, [], ◌∷◌, ◌++◌, length, ◌==◌}
-use Rattle.std.specs.List.{flat_map, AllByRecursion as All}
+use Rattle.std.specs.List.{flat_map, AllByRecursion}
 use Rattle.weights.specs.declared.weight.Weight.{Ghosts}
 use Rattle.codes.specs.Code.{is_code}
 use Rattle.plans.specs.declared.plan.Link.{Link}
@@ -64,8 +64,8 @@ module _ {W : Type 0} (g : Ghosts W) where
   pub record Valid (issue : Issue) (m : Model W) : Type 0 where
     pub few : length m.codes ≤ most_units
     pub short : length m.links ≤ most_links
-    pub codes : All (λ text. is_code text ≡ true) m.codes
-    pub fit : All (λ text. length text ≤ size_of_code issue) m.codes
+    pub codes : AllByRecursion (λ text. is_code text ≡ true) m.codes
+    pub fit : AllByRecursion (λ text. length text ≤ size_of_code issue) m.codes
     pub distinct : Distinct m.codes
-    pub joins : All (Joins g (length m.codes)) m.links
+    pub joins : AllByRecursion (Joins g (length m.codes)) m.links
     pub limited : total_of g m.links ≤ most_total

@@ -1,6 +1,6 @@
 -- A sound plan whose codes fit the issue is within the rules of a sheet, and how long its sheet is.
 use Rattle.std.proofs.Common.{◌≡◌, ℕ, ◌+◌, ◌*◌, ◌<◌, ◌≤◌, true, false, ◌||◌, eqb, List, [], ◌∷◌, map, length, get_or, take, drop, sym, ap, ◌∙◌, subst, ⊎_elim, suc-mul, arith}
-use Rattle.std.specs.List.{AllWithin, flat_map, AllByRecursion as All}
+use Rattle.std.specs.List.{AllWithin, flat_map, AllByRecursion}
 use Rattle.std.proofs.ByRecursion.{all_from_every}
 use Rattle.std.proofs.lemmas.List.{length-append, length_push, get_or-take, at_drop_more}
 use Rattle.std.proofs.lemmas.Bool.{or_parts, eqb-false}
@@ -20,12 +20,12 @@ use Rattle.writers.specs.Written.{has_long_code}
 use Rattle.writers.proofs.Lengths.{code_length, closed, not_closed, length_fours}
 
 -- a unit bears a code, by its own type
-pub all_codes : (us : List Unit) → All (λ text. is_code text ≡ true) (map code_of us)
+pub all_codes : (us : List Unit) → AllByRecursion (λ text. is_code text ≡ true) (map code_of us)
 all_codes [] = tt
 all_codes (u ∷ us) = (holds_code u.code, all_codes us)
 
 -- issue 1 takes the codes where none has seven characters, issue 2 all of them
-pub fit_first : (texts : List (List ℕ)) → All (λ text. is_code text ≡ true) texts → has_long_code texts ≡ false → All (λ text. length text ≤ 6) texts
+pub fit_first : (texts : List (List ℕ)) → AllByRecursion (λ text. is_code text ≡ true) texts → has_long_code texts ≡ false → AllByRecursion (λ text. length text ≤ 6) texts
 fit_first [] codes none = tt
 fit_first (t ∷ ts) codes none =
     let p = or_parts (eqb (length t) 7) (has_long_code ts) none in (
@@ -33,7 +33,7 @@ fit_first (t ∷ ts) codes none =
       fit_first ts codes.1 p.1,
     )
 
-pub fit_second : (texts : List (List ℕ)) → All (λ text. is_code text ≡ true) texts → All (λ text. length text ≤ 7) texts
+pub fit_second : (texts : List (List ℕ)) → AllByRecursion (λ text. is_code text ≡ true) texts → AllByRecursion (λ text. length text ≤ 7) texts
 fit_second [] codes = tt
 fit_second (t ∷ ts) codes = (⊎_elim (λ a. omega arith) (λ b. omega arith) (code_length t codes.0), fit_second ts codes.1)
 
@@ -49,7 +49,7 @@ length_field Second text e h =
     (λ b. ap length (not_closed Second text (omega arith)) ∙ b)
     (code_length text e)
 
-length_codes : (issue : Issue) (texts : List (List ℕ)) → All (λ text. is_code text ≡ true) texts → All (λ text. length text ≤ size_of_code issue) texts → length (flat_map (code_field issue) texts) ≡ length texts * size_of_code issue
+length_codes : (issue : Issue) (texts : List (List ℕ)) → AllByRecursion (λ text. is_code text ≡ true) texts → AllByRecursion (λ text. length text ≤ size_of_code issue) texts → length (flat_map (code_field issue) texts) ≡ length texts * size_of_code issue
 length_codes issue [] codes fit = sym (omega arith)
 length_codes issue (t ∷ ts) codes fit =
     let one = length_field issue t codes.0 fit.0 in
@@ -73,13 +73,13 @@ module _ {W : Type 0} (g : Ghosts W) where
       let both = length-append (flat_map (code_field issue) m.codes) (flat_map (link_bytes g) m.links) in
       omega arith
 
-  every_taken : {n : ℕ} (xs : List (Link W)) (k : ℕ) → length (take k xs) ≡ k → AllWithin (Joins g n) xs 0 k → All (Joins g n) (take k xs)
+  every_taken : {n : ℕ} (xs : List (Link W)) (k : ℕ) → length (take k xs) ≡ k → AllWithin (Joins g n) xs 0 k → AllByRecursion (Joins g n) (take k xs)
   every_taken {n} xs k len e =
       all_from_every (Joins g n) (take k xs)
       (λ j d low high. let in-it : j < k = omega arith in subst (Joins g n) (sym (get_or-take k xs j d in-it)) (e j d low in-it))
 
   -- a sound plan whose codes fit
-  pub sound_valid : (issue : Issue) (p : Plan W) → Sound g p → All (λ text. length text ≤ size_of_code issue) (model_of p).codes → Valid g issue (model_of p)
+  pub sound_valid : (issue : Issue) (p : Plan W) → Sound g p → AllByRecursion (λ text. length text ≤ size_of_code issue) (model_of p).codes → Valid g issue (model_of p)
   sound_valid issue p s fit =
       let units = unit_size g p s in
       let links = link_size_lem g p s in
@@ -93,6 +93,6 @@ module _ {W : Type 0} (g : Ghosts W) where
         codes = all_codes (take p.unit_count p.units);
         fit = fit;
         distinct = s.distinct;
-        joins = subst (λ n. All (Joins g n) (model_of p).links) (sym units) (every_taken p.links.now p.link_count links s.joins);
+        joins = subst (λ n. AllByRecursion (Joins g n) (model_of p).links) (sym units) (every_taken p.links.now p.link_count links s.joins);
         limited = omega arith;
       }

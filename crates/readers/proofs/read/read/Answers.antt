@@ -1,6 +1,6 @@
 use Rattle.std.proofs.Common.{◌≡◌, ◌-◌, ◌≤◌, [], ◌∷◌, ◌++◌, map, length, take, Ok, Err, sym, refl, ap, ◌∙◌, subst, ap₂, arith}
 use Rattle.std.proofs.lemmas.Result.{err_from_is_err_and}
-use Rattle.std.specs.List.{AllByRecursion as All}
+use Rattle.std.specs.List.{AllByRecursion}
 use Rattle.std.proofs.lemmas.List.{length-take}
 use Rattle.plans.specs.Model.{code_of, model_of}
 use Rattle.sheets.specs.Fields.{end, code_fields, code_place, head_fields, issue_in, link_fields, link_place, links_in, texts_in, through, units_in}
@@ -157,7 +157,7 @@ returns g c =
     let codes : before.codes ≡ texts_in bs (units_in bs) = ap (λ m. m.codes) c.load_units.ensures.model ∙ texts in
     let i = c.in_ok-head.head.issue in
     let head = told.bytes ∙ (ap (λ x. bytes_of_head w x n c.in_ok-head.head.links) told.issue ∙ ap₂ (bytes_of_head w (issue_in bs)) told.units told.links) in
-    let fit = subst (λ ts. All (λ text. length text ≤ size_of_code (issue_in bs)) ts) (sym (loaded.codes ∙ codes)) (texts_fit bs (units_in bs)) in
+    let fit = subst (λ ts. AllByRecursion (λ text. length text ≤ size_of_code (issue_in bs)) ts) (sym (loaded.codes ∙ codes)) (texts_fit bs (units_in bs)) in
     record {
       sound = c.load_links.ensures.sound;
       read = accepts w bs met.exact met.bounded met.narrow met.told c.args.plan.now p
