@@ -1,4 +1,4 @@
-use Rattle.std.proofs.Common.{◌≡◌, ◌+◌, ◌≤◌, length}
+use Rattle.std.proofs.Common.{◌≡◌, ◌+◌}
 use Rattle.engine.proofs.contraction.merge_found.Given as goal
 
 abbrev pub invariant-loop-i : goal.invariant-loop-i

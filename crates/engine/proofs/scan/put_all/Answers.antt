@@ -1,5 +1,5 @@
 use Rattle.std.proofs.Common.{◌<◌, length, arith}
-use Rattle.engine.proofs.Waiting.{waits_none, waits_put}
+use Rattle.engine.proofs.Waiting.{waits_put}
 use Rattle.engine.proofs.scan.put_all.Goals as goal
 
 pub loop-g-preserved : goal.loop-g-preserved

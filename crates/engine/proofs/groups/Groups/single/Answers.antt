@@ -1,4 +1,3 @@
-use Rattle.std.proofs.Common.{arith}
 use Rattle.engine.proofs.Names.{below_set, zeros_below}
 use Rattle.engine.proofs.groups.Groups.single.Goals as goal
 

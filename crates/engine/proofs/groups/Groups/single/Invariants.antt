@@ -1,4 +1,4 @@
-use Rattle.std.proofs.Common.{◌≡◌, ℕ, ◌<◌, get_or}
+use Rattle.std.proofs.Common.{ℕ, ◌<◌, get_or}
 use Rattle.engine.proofs.groups.Groups.single.Given as goal
 
 abbrev pub invariant-loop-u : goal.invariant-loop-u
