@@ -1,17 +1,15 @@
 // The calls, as they are made on a filing, and what is seen of each.
 ghost use Rattle.std.specs.Prelude.{◌≡◌, ℕ, ◌≤◌, IfOk, vec_len};
-ghost use Rattle.kept_plans.specs.Filed.{Filed};
+ghost use Rattle.plans.specs.Sound.{Sound};
 
 use crate::model::{Answered, Lent, Parts, Reply, UNTOUCHED};
-use answers::trial::trial;
-use answers::weakest::weakest;
 use cuts::entry::Entry;
 use cuts::ground::Ground;
-use kept_plans::filing::Filing;
+use filings::answer::Answer;
+use filings::filing::Filing;
 use queues::list::{ListQueue, Slot};
 use queues::queue::{GROUPS, PriorityQueue};
 use refusals::Refusal;
-use solvers::answer::Answer;
 use std::alloc::{AllocError, Global};
 use weights::weight::Weight;
 
@@ -132,13 +130,13 @@ fn ask<W: Weight, Q: PriorityQueue<Weight = W>>(
     entries: &mut [Entry],
     table: &mut [W],
 ) -> Result<Answer<W>, Refusal>
-    requires plan { Filed W.Weight filing.old }
+    requires plan { Sound W.Weight filing.old.plan }
     requires queue { Q.PriorityQueue.sound queue.old }
-    ensures { Filed W.Weight filing.new }
+    ensures { Sound W.Weight filing.new.plan }
 {
     match without {
-        None => weakest(filing, queue, marks, entries, table),
-        Some(link) => trial(filing, link, queue, marks, entries, table),
+        None => filing.weakest(queue, marks, entries, table),
+        Some(link) => filing.trial(link, queue, marks, entries, table),
     }
 }
 
@@ -149,8 +147,8 @@ fn worked_out<W: Weight>(
     without: Option<usize>,
     lent: Lent,
 ) -> anyhow::Result<Outcome>
-    requires { Filed W.Weight filing.old }
-    ensures { Filed W.Weight filing.new }
+    requires { Sound W.Weight filing.old.plan }
+    ensures { Sound W.Weight filing.new.plan }
 {
     let weight = W::from_parts(&[FILLED]).unwrap_or(W::nothing());
     let mut marks = filled(heap, UNTOUCHED, lent.marks)?;
@@ -171,8 +169,8 @@ fn worked_out<W: Weight>(
 }
 
 fn link<W: Weight>(filing: &mut Filing<W>, first: usize, second: usize, parts: Parts) -> Reply
-    requires { Filed W.Weight filing.old }
-    ensures { Filed W.Weight filing.new }
+    requires { Sound W.Weight filing.old.plan }
+    ensures { Sound W.Weight filing.new.plan }
 {
     match W::from_parts(&[parts.0, parts.1]) {
         Ok(weight) => numbered(filing.link(first, second, weight)),
@@ -181,19 +179,13 @@ fn link<W: Weight>(filing: &mut Filing<W>, first: usize, second: usize, parts: P
 }
 
 fn reweigh<W: Weight>(filing: &mut Filing<W>, link: usize, parts: Parts) -> Reply
-    requires { Filed W.Weight filing.old }
-    ensures { Filed W.Weight filing.new }
+    requires { Sound W.Weight filing.old.plan }
+    ensures { Sound W.Weight filing.new.plan }
 {
     match W::from_parts(&[parts.0, parts.1]) {
         Ok(weight) => done(filing.reweigh(link, weight)),
         Err(why) => Reply::Refused(why.number()),
     }
-}
-
-// A reply that comes without marks.
-fn without_marks(heap: Global, reply: Reply) -> anyhow::Result<Outcome> {
-    let marks = Vec::new(heap);
-    Ok(Outcome { reply, marks })
 }
 
 // Makes a call on a filing.
@@ -202,24 +194,20 @@ pub fn perform<W: Weight>(
     filing: &mut Filing<W>,
     call: &Call,
 ) -> anyhow::Result<Outcome>
-    requires { Filed W.Weight filing.old }
-    ensures { Filed W.Weight filing.new }
+    requires { Sound W.Weight filing.old.plan }
+    ensures { Sound W.Weight filing.new.plan }
 {
-    match call {
-        Call::Enter(text) => without_marks(heap, numbered(filing.enter(text.as_slice()))),
-        Call::Recode(unit, text) => without_marks(
-            heap,
-            done(filing.recode(*unit, text.as_slice())),
-        ),
-        Call::Link(first, second, parts) => without_marks(
-            heap,
-            link(filing, *first, *second, *parts),
-        ),
-        Call::Strike(link) => without_marks(heap, done(filing.strike(*link))),
-        Call::Reweigh(link, parts) => without_marks(heap, reweigh(filing, *link, *parts)),
-        Call::Mark(link, mark) => without_marks(heap, done(filing.mark(*link, *mark))),
-        Call::Weigh(marks) => without_marks(heap, weighed(filing.weigh(marks.as_slice()))),
-        Call::Weakest(lent) => worked_out(heap, filing, None, *lent),
-        Call::Trial(link, lent) => worked_out(heap, filing, Some(*link), *lent),
-    }
+    let reply = match call {
+        Call::Enter(text) => numbered(filing.enter(text.as_slice())),
+        Call::Recode(unit, text) => done(filing.recode(*unit, text.as_slice())),
+        Call::Link(first, second, parts) => link(filing, *first, *second, *parts),
+        Call::Strike(link) => done(filing.strike(*link)),
+        Call::Reweigh(link, parts) => reweigh(filing, *link, *parts),
+        Call::Mark(link, mark) => done(filing.mark(*link, *mark)),
+        Call::Weigh(marks) => weighed(filing.weigh(marks.as_slice())),
+        Call::Weakest(lent) => return worked_out(heap, filing, None, *lent),
+        Call::Trial(link, lent) => return worked_out(heap, filing, Some(*link), *lent),
+    };
+    let marks = Vec::new(heap);
+    Ok(Outcome { reply, marks })
 }

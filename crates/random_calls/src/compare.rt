@@ -1,10 +1,10 @@
 // What the model says to a call, and whether a filing's plan is the model's.
 ghost use Rattle.std.specs.Prelude.{ℕ, ◌≤◌};
-ghost use Rattle.kept_plans.specs.Filed.{Filed};
+ghost use Rattle.plans.specs.Sound.{Sound};
 
 use crate::calls::{Call, Outcome, parts_of};
 use crate::model::{Model, Parts, Reply, Wire, amount};
-use kept_plans::filing::Filing;
+use filings::filing::Filing;
 use plans::plan::{Link, Unit};
 use std::alloc::Global;
 use weights::weight::Weight;
@@ -61,7 +61,7 @@ fn same_links<W: Weight>(links: &[Link<W>], wires: &[Wire]) -> bool {
 
 // Whether the filing's plan is the model's.
 pub fn is_same<W: Weight>(filing: &Filing<W>, model: &Model) -> bool
-    requires { Filed W.Weight filing.now }
+    requires { Sound W.Weight filing.now.plan }
 {
     let plan = filing.plan();
     let counts = plan.unit_count() == model.codes.len() && plan.link_count() == model.wires.len();

@@ -3,13 +3,13 @@
 #![tactic(auto)]
 
 ghost use Rattle.std.specs.Prelude.{ℕ, ◌≤◌};
-ghost use Rattle.kept_plans.specs.Filed.{Filed};
+ghost use Rattle.plans.specs.Sound.{Sound};
 
 use crate::calls::{Call, filled, perform};
 use crate::compare::{expect, is_same};
 use crate::draws::{Dice, Kind, draw};
 use crate::model::{Model, Reply};
-use kept_plans::filing::Filing;
+use filings::filing::Filing;
 use plans::plan::{LINKS, Link};
 use weights::plain::Plain;
 use weights::ranked::Ranked;
@@ -40,8 +40,8 @@ fn step<W: Weight>(
     call: &Call,
     tally: &mut Tally,
 ) -> anyhow::Result<()>
-    requires { Filed W.Weight filing.old }
-    ensures { Filed W.Weight filing.new }
+    requires { Sound W.Weight filing.old.plan }
+    ensures { Sound W.Weight filing.new.plan }
 {
     let seen = perform(rt.alloc(), filing, call)?;
     let reply = seen.reply;

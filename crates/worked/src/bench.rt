@@ -1,16 +1,16 @@
 // What the tests share: filings over memory of their own, and what is seen of them.
 ghost use Rattle.std.specs.Prelude.{ℕ, ◌≤◌};
-ghost use Rattle.kept_plans.specs.Filed.{Filed};
+ghost use Rattle.plans.specs.Sound.{Sound};
 ghost use Rattle.weights.specs.contracts.plain.PlainWeight.TheImpl.{ghosts as plainKind};
 
 use crate::example::{CODES, LINKS, SHEET};
 use cuts::entry::Entry;
 use cuts::ground::Ground;
-use kept_plans::filing::Filing;
+use filings::answer::Answer;
+use filings::filing::Filing;
 use plans::plan::Link;
 use queues::list::{ListQueue, Slot};
 use refusals::Refusal;
-use solvers::answer::Answer;
 use std::process::Abort;
 use std::test::Fail;
 use weights::plain::Plain;
@@ -129,9 +129,9 @@ pub fn plain(conductors: u32) -> Result<Plain, Refusal> {
 
 // Enters units U10000, U10001 and so on.
 pub fn enter_units(filing: &mut Filing<Plain>, count: u8) -> Result<(), Refusal>
-    requires sound { Filed plainKind filing.old }
+    requires sound { Sound plainKind filing.old.plan }
     requires few { count ≤ 100 }
-    ensures { Filed plainKind filing.new }
+    ensures { Sound plainKind filing.new.plan }
 {
     for k in 0..count {
         filing.enter(&[b'U', b'1', b'0', b'0', b'0' + k / 10, b'0' + k % 10])?;
@@ -141,8 +141,8 @@ pub fn enter_units(filing: &mut Filing<Plain>, count: u8) -> Result<(), Refusal>
 
 // Makes each link in turn.
 pub fn join(filing: &mut Filing<Plain>, links: &[(usize, usize, u32)]) -> Result<(), Refusal>
-    requires { Filed plainKind filing.old }
-    ensures { Filed plainKind filing.new }
+    requires { Sound plainKind filing.old.plan }
+    ensures { Sound plainKind filing.new.plan }
 {
     for (first, second, conductors) in links {
         filing.link(*first, *second, plain(*conductors)?)?;
@@ -152,8 +152,8 @@ pub fn join(filing: &mut Filing<Plain>, links: &[(usize, usize, u32)]) -> Result
 
 // Makes one edit.
 pub fn make(filing: &mut Filing<Plain>, edit: Edit) -> Result<(), Refusal>
-    requires { Filed plainKind filing.old }
-    ensures { Filed plainKind filing.new }
+    requires { Sound plainKind filing.old.plan }
+    ensures { Sound plainKind filing.new.plan }
 {
     match edit {
         Edit::Enter(code) => {
@@ -171,7 +171,7 @@ pub fn make(filing: &mut Filing<Plain>, edit: Edit) -> Result<(), Refusal>
     }
 }
 
-pub fn gathered(answer: Answer<Plain>, marks: [u8; 6], record: [Entry; 6]) -> Seen {
+fn gathered(answer: Answer<Plain>, marks: [u8; 6], record: [Entry; 6]) -> Seen {
     Seen {
         figure: answer.figure.amount(),
         marks,
@@ -184,48 +184,35 @@ pub fn gathered(answer: Answer<Plain>, marks: [u8; 6], record: [Entry; 6]) -> Se
 
 // The weakest division, by the list queue.
 pub fn weakest(filing: &mut Filing<Plain>) -> Result<Seen, Refusal>
-    requires { Filed plainKind filing.old }
-    ensures { Filed plainKind filing.new }
+    requires { Sound plainKind filing.old.plan }
+    ensures { Sound plainKind filing.new.plan }
 {
     let mut slots = [Slot::<Plain>::empty(); 64];
     let mut queue = ListQueue::over(&mut slots);
     let mut marks = [UNTOUCHED; 6];
     let mut record = [BLANK; 6];
     let mut table = [Plain::nothing(); 36];
-    let answer = answers::weakest::weakest(
-        filing,
-        &mut queue,
-        &mut marks,
-        &mut record,
-        &mut table,
-    )?;
+    let answer = filing.weakest(&mut queue, &mut marks, &mut record, &mut table)?;
     Ok(gathered(answer, marks, record))
 }
 
 // The weakest division with one link out, by the list queue.
 pub fn trial(filing: &mut Filing<Plain>, link: usize) -> Result<Seen, Refusal>
-    requires { Filed plainKind filing.old }
-    ensures { Filed plainKind filing.new }
+    requires { Sound plainKind filing.old.plan }
+    ensures { Sound plainKind filing.new.plan }
 {
     let mut slots = [Slot::<Plain>::empty(); 64];
     let mut queue = ListQueue::over(&mut slots);
     let mut marks = [UNTOUCHED; 6];
     let mut record = [BLANK; 6];
     let mut table = [Plain::nothing(); 36];
-    let answer = answers::trial::trial(
-        filing,
-        link,
-        &mut queue,
-        &mut marks,
-        &mut record,
-        &mut table,
-    )?;
+    let answer = filing.trial(link, &mut queue, &mut marks, &mut record, &mut table)?;
     Ok(gathered(answer, marks, record))
 }
 
 // Whether the plan is the one of four units.
 pub fn is_example(filing: &Filing<Plain>) -> Result<bool, Refusal>
-    requires { Filed plainKind filing.now }
+    requires { Sound plainKind filing.now.plan }
 {
     let plan = filing.plan();
     let units = plan.units();
@@ -259,8 +246,8 @@ pub fn worked_out(units: u8, links: &[(usize, usize, u32)]) -> Result<Seen, Refu
 
 // Reads the plan of four units and works it out.
 pub fn begin(rt: &impl Abort, filing: &mut Filing<Plain>) -> Result<(), Fail>
-    requires { Filed plainKind filing.old }
-    ensures { Filed plainKind filing.new }
+    requires { Sound plainKind filing.old.plan }
+    ensures { Sound plainKind filing.new.plan }
 {
     filing.read(&SHEET)?;
     assert_eq!(rt; weakest(filing)?, BEGUN);
@@ -269,8 +256,8 @@ pub fn begin(rt: &impl Abort, filing: &mut Filing<Plain>) -> Result<(), Fail>
 
 // Checks that the plan of four units is as it began, and keeps its marks.
 pub fn unchanged(rt: &impl Abort, filing: &mut Filing<Plain>) -> Result<(), Fail>
-    requires { Filed plainKind filing.old }
-    ensures { Filed plainKind filing.new }
+    requires { Sound plainKind filing.old.plan }
+    ensures { Sound plainKind filing.new.plan }
 {
     assert!(rt; is_example(filing)?);
     assert_eq!(rt; weakest(filing)?, KEPT);
@@ -279,8 +266,8 @@ pub fn unchanged(rt: &impl Abort, filing: &mut Filing<Plain>) -> Result<(), Fail
 
 // Checks the kept flag and the figure of weakest.
 fn answers(rt: &impl Abort, filing: &mut Filing<Plain>, kept: bool, figure: u32) -> Result<(), Fail>
-    requires { Filed plainKind filing.old }
-    ensures { Filed plainKind filing.new }
+    requires { Sound plainKind filing.old.plan }
+    ensures { Sound plainKind filing.new.plan }
 {
     let seen = weakest(filing)?;
     assert_eq!(rt; (seen.kept, seen.figure), (kept, figure));
@@ -289,7 +276,7 @@ fn answers(rt: &impl Abort, filing: &mut Filing<Plain>, kept: bool, figure: u32)
 
 // The weight of a division, or the number of the refusal.
 fn weighed(filing: &Filing<Plain>, marks: &[u8]) -> Result<u32, u8>
-    requires { Filed plainKind filing.now }
+    requires { Sound plainKind filing.now.plan }
 {
     match filing.weigh(marks) {
         Ok(weight) => Ok(weight.amount()),
@@ -299,8 +286,8 @@ fn weighed(filing: &Filing<Plain>, marks: &[u8]) -> Result<u32, u8>
 
 // The figure with one link out, or the number of the refusal.
 fn tried(filing: &mut Filing<Plain>, link: usize) -> Result<u32, u8>
-    requires { Filed plainKind filing.old }
-    ensures { Filed plainKind filing.new }
+    requires { Sound plainKind filing.old.plan }
+    ensures { Sound plainKind filing.new.plan }
 {
     match trial(filing, link) {
         Ok(seen) => Ok(seen.figure),
@@ -309,8 +296,8 @@ fn tried(filing: &mut Filing<Plain>, link: usize) -> Result<u32, u8>
 }
 
 fn take(rt: &impl Abort, filing: &mut Filing<Plain>, step: Step) -> Result<(), Fail>
-    requires { Filed plainKind filing.old }
-    ensures { Filed plainKind filing.new }
+    requires { Sound plainKind filing.old.plan }
+    ensures { Sound plainKind filing.new.plan }
 {
     match step {
         Step::Begin => begin(rt, filing),
@@ -337,8 +324,8 @@ fn take(rt: &impl Abort, filing: &mut Filing<Plain>, step: Step) -> Result<(), F
 
 // Goes through the steps of a test.
 pub fn follow(rt: &impl Abort, filing: &mut Filing<Plain>, steps: &[Step]) -> Result<(), Fail>
-    requires { Filed plainKind filing.old }
-    ensures { Filed plainKind filing.new }
+    requires { Sound plainKind filing.old.plan }
+    ensures { Sound plainKind filing.new.plan }
 {
     for next in steps {
         take(rt, filing, *next)?;

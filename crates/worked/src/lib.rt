@@ -2,9 +2,9 @@
 #![tactic(auto)]
 
 #[cfg(test)]
-mod bench;
+mod answers;
 #[cfg(test)]
-mod divisions;
+mod bench;
 #[cfg(test)]
 mod edits;
 pub mod example;
@@ -12,7 +12,5 @@ pub mod example;
 mod keeping;
 #[cfg(test)]
 mod reading;
-#[cfg(test)]
-mod ties;
 #[cfg(test)]
 mod trials;

@@ -1,0 +1,354 @@
+// What the tests share: filings over memory of their own, and what is seen of them.
+ghost use Rattle.std.specs.Prelude.{ℕ, ◌≤◌};
+ghost use Rattle.kept_plans.specs.Filed.{Filed};
+ghost use Rattle.weights.specs.contracts.plain.PlainWeight.TheImpl.{ghosts as plainKind};
+
+use crate::example::{CODES, LINKS, SHEET};
+use cuts::entry::Entry;
+use cuts::ground::Ground;
+use kept_plans::filing::Filing;
+use plans::plan::Link;
+use queues::list::{ListQueue, Slot};
+use refusals::Refusal;
+use solvers::answer::Answer;
+use std::process::Abort;
+use std::test::Fail;
+use weights::plain::Plain;
+use weights::weight::Weight;
+
+// An answer, with the memory that was lent for it: six marks and six entries.
+#[derive(Clone, Copy, PartialEq, Eq, Debug)]
+pub struct Seen {
+    pub figure: u32,
+    pub marks: [u8; 6],
+    pub record: [Entry; 6],
+    pub mergers: usize,
+    pub scans: usize,
+    pub kept: bool,
+}
+
+// What the memory for marks and for entries holds before a call.
+pub const UNTOUCHED: u8 = 9;
+
+pub const BLANK: Entry = Entry {
+    low: UNTOUCHED,
+    high: UNTOUCHED,
+    ground: Ground::Scan,
+    scan: UNTOUCHED,
+};
+
+// What is worked out about the plan of four units. Degrees 5, 4, 5, 6: best is 4. Units 0 and 1 share 3, and 4 is at
+// most 3 + 3: ground 2. Their group weighs 5 + 4 - 6 = 3, the new best. It shares 1 with unit 2; with unit 3 beside
+// them, 3 is at most 2 × (1 + 2) and 5 at most 2 × (1 + 4): ground 3.
+pub const BEGUN: Seen = Seen {
+    figure: 3,
+    marks: [0, 0, 1, 1, UNTOUCHED, UNTOUCHED],
+    record: [
+        Entry {
+            low: 0,
+            high: 1,
+            ground: Ground::Unbalanced,
+            scan: 0,
+        },
+        Entry {
+            low: 0,
+            high: 2,
+            ground: Ground::Triangle,
+            scan: 0,
+        },
+        BLANK,
+        BLANK,
+        BLANK,
+        BLANK,
+    ],
+    mergers: 2,
+    scans: 0,
+    kept: false,
+};
+
+// The answer from the marks that the plan of four units keeps.
+pub const KEPT: Seen = Seen {
+    figure: 3,
+    marks: [0, 0, 1, 1, UNTOUCHED, UNTOUCHED],
+    record: [BLANK; 6],
+    mergers: 0,
+    scans: 0,
+    kept: true,
+};
+
+// One edit.
+#[derive(Clone, Copy)]
+pub enum Edit {
+    Enter([u8; 6]),
+    Recode(usize, [u8; 6]),
+    Link(usize, usize, u32),
+    Strike(usize),
+    Reweigh(usize, u32),
+    Mark(usize, u8),
+}
+
+// One step of a test.
+#[derive(Clone, Copy)]
+pub enum Step {
+    // the plan of four units is read and worked out
+    Begin,
+    // an edit is accepted
+    Make(Edit),
+    // an edit is refused with a number
+    Refuse(Edit, u8),
+    // weigh answers so, or is refused with a number
+    Weigh([u8; 4], Result<u32, u8>),
+    // the trial of a link gives this figure, or is refused with a number
+    Trial(usize, Result<u32, u8>),
+    // weakest answers with this kept flag and figure
+    Weakest(bool, u32),
+    // the plan of four units is as it began, and keeps its marks
+    Unchanged,
+}
+
+pub fn entry(low: u8, high: u8, ground: Ground, scan: u8) -> Entry {
+    Entry {
+        low,
+        high,
+        ground,
+        scan,
+    }
+}
+
+// The number of a refusal, or 0 where there is none.
+pub fn number<T: Drop>(outcome: Result<T, Refusal>) -> u8 {
+    match outcome {
+        Ok(_) => 0,
+        Err(why) => why.number(),
+    }
+}
+
+pub fn plain(conductors: u32) -> Result<Plain, Refusal> {
+    Plain::from_parts(&[conductors])
+}
+
+// Enters units U10000, U10001 and so on.
+pub fn enter_units(filing: &mut Filing<Plain>, count: u8) -> Result<(), Refusal>
+    requires sound { Filed plainKind filing.old }
+    requires few { count ≤ 100 }
+    ensures { Filed plainKind filing.new }
+{
+    for k in 0..count {
+        filing.enter(&[b'U', b'1', b'0', b'0', b'0' + k / 10, b'0' + k % 10])?;
+    }
+    Ok(())
+}
+
+// Makes each link in turn.
+pub fn join(filing: &mut Filing<Plain>, links: &[(usize, usize, u32)]) -> Result<(), Refusal>
+    requires { Filed plainKind filing.old }
+    ensures { Filed plainKind filing.new }
+{
+    for (first, second, conductors) in links {
+        filing.link(*first, *second, plain(*conductors)?)?;
+    }
+    Ok(())
+}
+
+// Makes one edit.
+pub fn make(filing: &mut Filing<Plain>, edit: Edit) -> Result<(), Refusal>
+    requires { Filed plainKind filing.old }
+    ensures { Filed plainKind filing.new }
+{
+    match edit {
+        Edit::Enter(code) => {
+            filing.enter(&code)?;
+            Ok(())
+        }
+        Edit::Recode(unit, code) => filing.recode(unit, &code),
+        Edit::Link(first, second, conductors) => {
+            filing.link(first, second, plain(conductors)?)?;
+            Ok(())
+        }
+        Edit::Strike(link) => filing.strike(link),
+        Edit::Reweigh(link, conductors) => filing.reweigh(link, plain(conductors)?),
+        Edit::Mark(link, mark) => filing.mark(link, mark),
+    }
+}
+
+pub fn gathered(answer: Answer<Plain>, marks: [u8; 6], record: [Entry; 6]) -> Seen {
+    Seen {
+        figure: answer.figure.amount(),
+        marks,
+        record,
+        mergers: answer.mergers,
+        scans: answer.scans,
+        kept: answer.kept,
+    }
+}
+
+// The weakest division, by the list queue.
+pub fn weakest(filing: &mut Filing<Plain>) -> Result<Seen, Refusal>
+    requires { Filed plainKind filing.old }
+    ensures { Filed plainKind filing.new }
+{
+    let mut slots = [Slot::<Plain>::empty(); 64];
+    let mut queue = ListQueue::over(&mut slots);
+    let mut marks = [UNTOUCHED; 6];
+    let mut record = [BLANK; 6];
+    let mut table = [Plain::nothing(); 36];
+    let answer = answers::weakest::weakest(
+        filing,
+        &mut queue,
+        &mut marks,
+        &mut record,
+        &mut table,
+    )?;
+    Ok(gathered(answer, marks, record))
+}
+
+// The weakest division with one link out, by the list queue.
+pub fn trial(filing: &mut Filing<Plain>, link: usize) -> Result<Seen, Refusal>
+    requires { Filed plainKind filing.old }
+    ensures { Filed plainKind filing.new }
+{
+    let mut slots = [Slot::<Plain>::empty(); 64];
+    let mut queue = ListQueue::over(&mut slots);
+    let mut marks = [UNTOUCHED; 6];
+    let mut record = [BLANK; 6];
+    let mut table = [Plain::nothing(); 36];
+    let answer = answers::trial::trial(
+        filing,
+        link,
+        &mut queue,
+        &mut marks,
+        &mut record,
+        &mut table,
+    )?;
+    Ok(gathered(answer, marks, record))
+}
+
+// Whether the plan is the one of four units.
+pub fn is_example(filing: &Filing<Plain>) -> Result<bool, Refusal>
+    requires { Filed plainKind filing.now }
+{
+    let plan = filing.plan();
+    let units = plan.units();
+    if units.len() != 4 || plan.link_count() != 4 {
+        return Ok(false);
+    }
+    for k in 0..4 {
+        let link = plan.link_at(k)?;
+        let joint = (
+            link.first as usize,
+            link.second as usize,
+            link.weight.amount(),
+        );
+        if units[k].code.text() != CODES[k].as_slice() || joint != LINKS[k] || !link.in_service {
+            return Ok(false);
+        }
+    }
+    Ok(true)
+}
+
+// The answer about a plan with these links between so many units.
+pub fn worked_out(units: u8, links: &[(usize, usize, u32)]) -> Result<Seen, Refusal>
+    requires { units ≤ 100 }
+{
+    let mut memory = [Link::<Plain>::blank(); 512];
+    let mut filing = Filing::open(&mut memory);
+    enter_units(&mut filing, units)?;
+    join(&mut filing, links)?;
+    weakest(&mut filing)
+}
+
+// Reads the plan of four units and works it out.
+pub fn begin(rt: &impl Abort, filing: &mut Filing<Plain>) -> Result<(), Fail>
+    requires { Filed plainKind filing.old }
+    ensures { Filed plainKind filing.new }
+{
+    filing.read(&SHEET)?;
+    assert_eq!(rt; weakest(filing)?, BEGUN);
+    Ok(())
+}
+
+// Checks that the plan of four units is as it began, and keeps its marks.
+pub fn unchanged(rt: &impl Abort, filing: &mut Filing<Plain>) -> Result<(), Fail>
+    requires { Filed plainKind filing.old }
+    ensures { Filed plainKind filing.new }
+{
+    assert!(rt; is_example(filing)?);
+    assert_eq!(rt; weakest(filing)?, KEPT);
+    Ok(())
+}
+
+// Checks the kept flag and the figure of weakest.
+fn answers(rt: &impl Abort, filing: &mut Filing<Plain>, kept: bool, figure: u32) -> Result<(), Fail>
+    requires { Filed plainKind filing.old }
+    ensures { Filed plainKind filing.new }
+{
+    let seen = weakest(filing)?;
+    assert_eq!(rt; (seen.kept, seen.figure), (kept, figure));
+    Ok(())
+}
+
+// The weight of a division, or the number of the refusal.
+fn weighed(filing: &Filing<Plain>, marks: &[u8]) -> Result<u32, u8>
+    requires { Filed plainKind filing.now }
+{
+    match filing.weigh(marks) {
+        Ok(weight) => Ok(weight.amount()),
+        Err(why) => Err(why.number()),
+    }
+}
+
+// The figure with one link out, or the number of the refusal.
+fn tried(filing: &mut Filing<Plain>, link: usize) -> Result<u32, u8>
+    requires { Filed plainKind filing.old }
+    ensures { Filed plainKind filing.new }
+{
+    match trial(filing, link) {
+        Ok(seen) => Ok(seen.figure),
+        Err(why) => Err(why.number()),
+    }
+}
+
+fn take(rt: &impl Abort, filing: &mut Filing<Plain>, step: Step) -> Result<(), Fail>
+    requires { Filed plainKind filing.old }
+    ensures { Filed plainKind filing.new }
+{
+    match step {
+        Step::Begin => begin(rt, filing),
+        Step::Make(edit) => {
+            assert_eq!(rt; number(make(filing, edit)), 0);
+            Ok(())
+        },
+        Step::Refuse(edit, why) => {
+            assert_eq!(rt; number(make(filing, edit)), why);
+            Ok(())
+        },
+        Step::Weigh(marks, outcome) => {
+            assert_eq!(rt; weighed(filing, &marks), outcome);
+            Ok(())
+        },
+        Step::Trial(link, outcome) => {
+            assert_eq!(rt; tried(filing, link), outcome);
+            Ok(())
+        },
+        Step::Weakest(kept, figure) => answers(rt, filing, kept, figure),
+        Step::Unchanged => unchanged(rt, filing),
+    }
+}
+
+// Goes through the steps of a test.
+pub fn follow(rt: &impl Abort, filing: &mut Filing<Plain>, steps: &[Step]) -> Result<(), Fail>
+    requires { Filed plainKind filing.old }
+    ensures { Filed plainKind filing.new }
+{
+    for next in steps {
+        take(rt, filing, *next)?;
+    }
+    Ok(())
+}
+
+// Goes through the steps of a test, from a plan with no units.
+pub fn play(rt: &impl Abort, steps: &[Step]) -> Result<(), Fail> {
+    let mut memory = [Link::<Plain>::blank(); 512];
+    let mut filing = Filing::open(&mut memory);
+    follow(rt, &mut filing, steps)
+}
