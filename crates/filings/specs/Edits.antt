@@ -1,5 +1,5 @@
 -- Which edits kept marks outlive.
-use Rattle.std.specs.Prelude.{ℕ, ◌<◌, Bool, true, false, not, ◌&&◌, ◌||◌, List, ◌==◌, slice_index}
+use Rattle.std.specs.Prelude.{ℕ, ◌<◌, Bool, true, false, not, ◌||◌, List, ◌==◌, slice_index}
 use Rattle.filings.specs.declared.kept.Change.{Change}
 use Rattle.filings.specs.declared.kept.Change.TheVariants.{Equal, Heavier, Lighter}
 use Rattle.filings.specs.declared.kept.Edit.{Edit}
