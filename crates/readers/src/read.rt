@@ -5,11 +5,11 @@ ghost use Rattle.sheets.specs.Fields.{code_place, end, link_fields, link_place, 
 ghost use Rattle.readers.specs.Outcome.{Outcome};
 ghost use Rattle.readers.specs.Records.{Reads};
 
-use crate::codes::read_codes;
 use crate::cursor::Cursor;
 use crate::head::{Head, read_head};
 use crate::load::{load_links, load_units};
 use crate::records::read_link;
+use crate::unit_codes::read_codes;
 use codes::code::FaultCode;
 use plans::plan::{Plan, Unit};
 use sheets::fault::Fault;

@@ -5,7 +5,7 @@ use Rattle.sheets.specs.Fields.{code, code_fields, code_place, units_in}
 use Rattle.sheets.proofs.Firsts.{fault_at_lem, in_one}
 use Rattle.readers.proofs.Coding.{Coding, code_read, coding_none, coding_more}
 use Rattle.readers.proofs.Exits.{broke}
-use Rattle.readers.proofs.codes.read_codes.Goals as goal
+use Rattle.readers.proofs.unit_codes.read_codes.Goals as goal
 
 pub loop-k-init : goal.loop-k-init
 loop-k-init g c = coding_none g.W.Weight c.args.cursor.now.bytes.now c.args.cursor.now c.args.units.now refl c.requires.place
