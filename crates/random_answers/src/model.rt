@@ -3,7 +3,7 @@
 use crate::model::divisions::{cut, heavier};
 use std::alloc::Global;
 
-pub mod answers;
+pub mod workings;
 pub mod divisions;
 
 // The parts of a weight.
