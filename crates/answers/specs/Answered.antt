@@ -1,5 +1,5 @@
 -- What weakest and trial are refused with, and what they answer and leave behind.
-use Rattle.std.specs.Prelude.{◌≡◌, ℕ, ◌*◌, Bool, true, false, ◌&&◌, List, length, take, drop, Some, None, Ok, Err, Option, Result, nat_le, nat_lt}
+use Rattle.std.specs.Prelude.{◌≡◌, ℕ, ◌*◌, Bool, true, false, ◌&&◌, List, length, take, drop, Some, Ok, Err, Option, Result, nat_le, nat_lt}
 use Rattle.refusals.specs.declared.Refusal.{Refusal}
 use Rattle.refusals.specs.declared.Refusal.TheVariants.{NoDivision, NoSuchLink, ShortMemory}
 use Rattle.weights.specs.declared.weight.Weight.{Ghosts}

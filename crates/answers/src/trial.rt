@@ -8,9 +8,9 @@ ghost use Rattle.solvers.specs.Answers.{QueueLeft};
 
 use crate::room::check_room;
 use cuts::entry::Entry;
-use kept_plans::filing::Filing;
 use fills::fill::copy_marks;
 use fills::guard::fill_without;
+use kept_plans::filing::Filing;
 use queues::queue::PriorityQueue;
 use refusals::Refusal;
 use solvers::answer::Answer;

@@ -1,4 +1,4 @@
-use Rattle.std.proofs.Common.{◌≡◌, ◌≤◌, false, map, length, set, sym, ap, ◌∙◌, subst, arith, rules}
+use Rattle.std.proofs.Common.{◌≤◌, false, map, length, set, sym, ap, ◌∙◌, subst, arith, rules}
 use Rattle.std.specs.List.{AllWithin}
 use Rattle.plans.specs.Divided.{valued}
 use Rattle.plans.specs.Marks.{Shows, with_mark}
