@@ -3,4 +3,4 @@ use Rattle.weights.specs.contracts.plain.PlainWeight.TheImpl.{ghosts as plainKin
 use Rattle.worked_answers.proofs.reading.refuses.Given as goal
 
 abbrev pub invariant-loop-damage : goal.invariant-loop-damage
-invariant-loop-damage l = Filed plainKind l.filing
+invariant-loop-damage g l = Filed plainKind l.filing
