@@ -3,8 +3,8 @@
 use crate::model::divisions::{cut, heavier};
 use std::alloc::Global;
 
-pub mod workings;
 pub mod divisions;
+pub mod workings;
 
 // The parts of a weight.
 pub type Parts = (u32, u32);

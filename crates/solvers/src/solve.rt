@@ -10,8 +10,8 @@ ghost use Rattle.solvers.specs.Answers.{LeftBehind, QueueLeft, WorkedOut};
 ghost use Rattle.tables.specs.Meaning.{Holds};
 
 use crate::answer::Answer;
-use cuts::entry::Entry;
 use contractions::contraction::contract;
+use cuts::entry::Entry;
 use fills::fill::{copy_marks, fill};
 use plans::plan::Plan;
 use queues::queue::PriorityQueue;
