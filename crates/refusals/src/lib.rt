@@ -55,3 +55,12 @@ impl Refusal {
         self as u8
     }
 }
+
+// The same number, as a conversion.
+impl From<Refusal> for u8 {
+    ghost from_gives = { λ refusal number. number ≡ number_of refusal };
+
+    fn from(refusal: Refusal) -> u8 {
+        refusal.number()
+    }
+}
