@@ -1,5 +1,5 @@
 -- The values of a table's entries, and what a write changes.
-use Rattle.std.proofs.Common.{◌≡◌, ℕ, zero, suc, ◌+◌, ◌*◌, ◌/◌, ◌%◌, ◌<◌, List, [], ◌∷◌, length, get_or, set, sym, refl, ap, ◌∙◌, arith}
+use Rattle.std.proofs.Common.{◌≡◌, ℕ, zero, suc, ◌+◌, ◌*◌, ◌/◌, ◌%◌, ◌<◌, List, [], ◌∷◌, ◌++◌, length, get_or, set, sym, refl, ap, ◌∙◌, arith}
 use Rattle.std.proofs.lemmas.Nat.{div-mul-add, mod-mul-add}
 use Rattle.weights.specs.declared.weight.Weight.{Ghosts}
 use Rattle.tables.specs.Meaning.{value_at}
@@ -26,6 +26,13 @@ module _ {W : Type 0} (g : Ghosts W) where
   value_set_other (y ∷ xs) zero (suc j) x ne = refl
   value_set_other (y ∷ xs) (suc i) zero x ne = refl
   value_set_other (y ∷ xs) (suc i) (suc j) x ne = value_set_other xs i j x (λ e. ne (ap suc e))
+
+  -- what stands before a list stands there too with more behind it
+  pub value_append : (xs ys : List W) (i : ℕ) → i < length xs → value_at g (xs ++ ys) i ≡ value_at g xs i
+  unfolding value_at
+  value_append [] ys i h = absurd (omega arith)
+  value_append (x ∷ xs) ys zero h = refl
+  value_append (x ∷ xs) ys (suc i) h = value_append xs ys i (omega arith)
 
 -- one place is one row and one column
 pub same_cell : (n a b c d : ℕ) → b < n → d < n → a * n + b ≡ c * n + d → (a ≡ c) × (b ≡ d)

@@ -1,6 +1,6 @@
 -- How the arrays of the groups follow the mergers.
-use Rattle.std.proofs.Common.{◌≡◌, ℕ, ◌+◌, ◌-◌, ◌<◌, ◌≤◌, Bool, true, false, cond, not, ◌&&◌, eqb, List, [], ◌∷◌, ◌++◌, length, get_or, set, sym, ap, ◌∙◌, subst, ⊎_elim, arith, length-append}
-use Rattle.std.proofs.lemmas.List.{get_or-set_other, get_or-set_same, get_or_past, length-set}
+use Rattle.std.proofs.Common.{◌≡◌, ℕ, ◌+◌, ◌-◌, ◌<◌, ◌≤◌, Bool, true, false, cond, not, ◌&&◌, eqb, List, [], ◌∷◌, ◌++◌, length, get_or, set, take, sym, refl, ap, ◌∙◌, subst, ⊎_elim, arith, length-append, length-take}
+use Rattle.std.proofs.lemmas.List.{get_or-set_other, get_or-set_same, get_or_past, length-set, get_or_append_left, get_or-take}
 use Rattle.std.proofs.lemmas.Bool.{cases_eq, cases_lt}
 use Rattle.std.proofs.lemmas.Bool.Decides.{nat_tests}
 use Rattle.cuts.specs.declared.entry.Entry.{Entry}
@@ -37,3 +37,9 @@ module _ (n : ℕ) (es : List Entry) (e : Entry) (joins : Joins n [] es) (low : 
 -- each unit alone stands
 pub single_stands : (n u : ℕ) → u < n → true ≡ stands n [] u
 single_stands n u lt = grind (arith, nat_tests)
+
+-- names of which the first n are renamed
+pub renamed_part : (old part rest : List ℕ) (n low high l h : ℕ) → l ≡ low → h ≡ high → n ≤ length old → length part ≡ length (take n old) → ((x : ℕ) → x < length (take n old) → get_or part x 0 ≡ cond (eqb (get_or (take n old) x 0) high) low (get_or (take n old) x 0)) → (x : ℕ) → x < n → get_or (part ++ rest) x 0 ≡ cond (eqb (get_or old x 0) h) l (get_or old x 0)
+renamed_part old part rest n low high l h is-low is-high fits same renamed x lt =
+    let size : length (take n old) ≡ n = grind (arith, length-take) in
+    rw (is-low, is-high, get_or_append_left part rest 0 x (omega (arith, same, size)), renamed x (omega (arith, size)), get_or-take n old x 0 lt) refl

@@ -1,6 +1,6 @@
 // The weight table: n rows of n weights. The entry of two groups is their joint weight; the
 // entry of a group with itself is its degree.
-ghost use Rattle.std.specs.Prelude.{◌≡◌, ℕ, ◌+◌, ◌*◌, ◌<◌, ◌≤◌, [], length, drop, slice_set};
+ghost use Rattle.std.specs.Prelude.{◌≡◌, ℕ, ◌+◌, ◌*◌, ◌<◌, ◌≤◌, [], length, drop, slice_index_or, slice_set};
 ghost use Rattle.tables.specs.Meaning.{at, value_at, Holds};
 
 use weights::weight::Weight;
@@ -11,7 +11,8 @@ pub fn entry<W: Weight>(table: &[W], n: usize, row: usize, column: usize) -> W
     requires row { row < n }
     requires column { column < n }
     requires size { n * n ≤ length table.now }
-    ensures { W.Weight.value result ≡ at W.Weight table.now n row column }
+    ensures value { W.Weight.value result ≡ at W.Weight table.now n row column }
+    ensures cell { result ≡ slice_index_or table.now (row * n + column) result }
 {
     table[row * n + column]
 }
@@ -39,15 +40,22 @@ pub fn set_joint<W: Weight>(table: &mut [W], n: usize, a: usize, b: usize, weigh
     set_entry(table, n, b, a, weight);
 }
 
-// The n rows become nothing, which is the table of no links; what lies past them stays.
-pub fn clear<W: Weight>(table: &mut [W], n: usize)
-    requires most { n ≤ 64 }
-    requires size { n * n ≤ length table.old }
-    ensures nothing { (i : ℕ) → i < n * n → value_at W.Weight table.new i ≡ W.Weight.zero }
-    ensures holds { Holds W.Weight n [] [] table.new }
-    ensures rest { drop (n * n) table.new ≡ drop (n * n) table.old }
+// All entries become nothing.
+fn blank<W: Weight>(entries: &mut [W])
+    ensures length { length entries.new ≡ length entries.old }
+    ensures nothing { (i : ℕ) → i < length entries.old → value_at W.Weight entries.new i ≡ W.Weight.zero }
 {
-    for i in 0..n * n {
-        table[i] = W::nothing();
+    for entry in entries {
+        *entry = W::nothing();
     }
+}
+
+// The first entries become nothing, which for n rows is the table of no links; what lies past them stays.
+pub fn clear<W: Weight>(table: &mut [W], entries: usize)
+    requires { entries ≤ length table.old }
+    ensures nothing { (i : ℕ) → i < entries → value_at W.Weight table.new i ≡ W.Weight.zero }
+    ensures holds { (n : ℕ) → n * n ≡ entries → Holds W.Weight n [] [] table.new }
+    ensures rest { drop entries table.new ≡ drop entries table.old }
+{
+    blank(&mut table[0..entries]);
 }

@@ -14,10 +14,8 @@ impl Groups {
     {
         let mut standing = [false; 64];
         let mut names = [0; 64];
-        for u in 0..units {
-            standing[u] = true;
-            names[u] = u;
-        }
+        standing[0..units].fill(true);
+        name_apart(&mut names[0..units]);
         Groups {
             units,
             left: units,
@@ -52,30 +50,38 @@ impl Groups {
 
     // The units of `high` join those of `low`.
     pub fn join(&mut self, low: usize, high: usize)
-        requires low { low < high }
+        requires low { low < self.old.units }
         requires high { high < self.old.units }
         requires left { 0 < self.old.left }
         ensures units { self.new.units ≡ self.old.units }
         ensures left { self.new.left + 1 ≡ self.old.left }
-        ensures tracks { (n : ℕ) (es : List Entry) (e : Entry) → Joins n [] es → stands n es low ≡ true → stands n es high ≡ true → e.low ≡ low → e.high ≡ high → Tracks n es self.old → Tracks n (es ++ (e ∷ [])) self.new }
+        ensures tracks { (n : ℕ) (es : List Entry) (e : Entry) → Joins n [] es → stands n es low ≡ true → stands n es high ≡ true → low < high → e.low ≡ low → e.high ≡ high → Tracks n es self.old → Tracks n (es ++ (e ∷ [])) self.new }
     {
-        rename(&mut self.names, self.units, low, high);
+        let units = self.units;
+        rename(&mut self.names[0..units], low, high);
         self.standing[high] = false;
         self.left -= 1;
     }
 }
 
-// Every `high` among the first `units` names becomes `low`.
-fn rename(names: &mut [usize], units: usize, low: usize, high: usize)
-    requires size { units ≤ length names.old }
-    requires bound { low < units }
-    requires named { (x : ℕ) → x < units → slice_index names.old x < units }
-    ensures bound { (x : ℕ) → x < units → slice_index names.new x < units }
-    ensures renamed { (x : ℕ) → x < units → slice_index names.new x ≡ (if nat_eq (slice_index names.old x) high then low else slice_index names.old x) }
+// Every `high` among names becomes `low`.
+fn rename(names: &mut [usize], low: usize, high: usize)
+    ensures length { length names.new ≡ length names.old }
+    ensures renamed { (x : ℕ) → x < length names.old → slice_index names.new x ≡ (if nat_eq (slice_index names.old x) high then low else slice_index names.old x) }
 {
-    for i in 0..units {
-        if names[i] == high {
-            names[i] = low;
+    for name in names {
+        if *name == high {
+            *name = low;
         }
+    }
+}
+
+// Each unit gets its own number for a name.
+fn name_apart(names: &mut [usize])
+    ensures length { length names.new ≡ length names.old }
+    ensures named { (x : ℕ) → x < length names.old → slice_index names.new x ≡ x }
+{
+    for (unit, name) in names.iter_mut().enumerate() {
+        *name = unit;
     }
 }

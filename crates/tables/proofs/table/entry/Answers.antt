@@ -15,8 +15,8 @@ offset_bounds-table-row g c = let h = mul-add-lt c.args.row c.args.n c.args.colu
 pub bounds-table-row : goal.bounds-table-row
 bounds-table-row g c = let h = mul-add-lt c.args.row c.args.n c.args.column c.args.n c.requires.row c.requires.column in omega arith
 
-pub returns : goal.returns
-returns g c =
+pub returns-clause-value : goal.returns-clause-value
+returns-clause-value g c =
     let h = mul-add-lt c.args.row c.args.n c.args.column c.args.n c.requires.row c.requires.column in
     let lt : c.args.row * c.args.n + c.args.column < length c.args.table.now = omega arith in
     ap g.W.Weight.value c.index-table-row.is ∙ sym (value_get_d g.W.Weight c.args.table.now (c.args.row * c.args.n + c.args.column) _ lt)
