@@ -34,10 +34,6 @@ module _ (n : ℕ) (es : List Entry) (e : Entry) (joins : Joins n [] es) (low : 
   pub left_more : (left : ℕ) → left + length es ≡ n → 0 < left → (left - 1) + length (es ++ (e ∷ [])) ≡ n
   left_more left count some = let h = length-append es (e ∷ []) in omega arith
 
--- each unit alone stands
-pub single_stands : (n u : ℕ) → u < n → true ≡ stands n [] u
-single_stands n u lt = grind (arith, nat_tests)
-
 -- names of which the first n are renamed
 pub renamed_part : (old part rest : List ℕ) (n low high l h : ℕ) → l ≡ low → h ≡ high → n ≤ length old → length part ≡ length (take n old) → ((x : ℕ) → x < length (take n old) → get_or part x 0 ≡ cond (eqb (get_or (take n old) x 0) high) low (get_or (take n old) x 0)) → (x : ℕ) → x < n → get_or (part ++ rest) x 0 ≡ cond (eqb (get_or old x 0) h) l (get_or old x 0)
 renamed_part old part rest n low high l h is-low is-high fits same renamed x lt =
