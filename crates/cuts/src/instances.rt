@@ -10,56 +10,56 @@ use weights::plain::Plain;
 use weights::ranked::Ranked;
 
 // The record theorem, for plain weights.
-pub fn plain_record_is_least() -> u8
+pub fn plain_record_is_least()
     ensures { RecordLeast (kind 0 plain_plus plain_le plain_size) }
 {
     record_is_least::<Plain>()
 }
 
 // The record theorem, for ranked weights.
-pub fn ranked_record_is_least() -> u8
+pub fn ranked_record_is_least()
     ensures { RecordLeast (kind (0, 0) ranked_plus ranked_le ranked_size) }
 {
     record_is_least::<Ranked>()
 }
 
 // The promise of an answer, for plain weights.
-pub fn plain_outcome_is_promised() -> u8
+pub fn plain_outcome_is_promised()
     ensures { OutcomePromised (kind 0 plain_plus plain_le plain_size) }
 {
     outcome_is_promised::<Plain>()
 }
 
 // The promise of an answer, for ranked weights.
-pub fn ranked_outcome_is_promised() -> u8
+pub fn ranked_outcome_is_promised()
     ensures { OutcomePromised (kind (0, 0) ranked_plus ranked_le ranked_size) }
 {
     outcome_is_promised::<Ranked>()
 }
 
 // Alike plans have one figure, for plain weights.
-pub fn plain_alike_have_one_figure() -> u8
+pub fn plain_alike_have_one_figure()
     ensures { AlikeSame (kind 0 plain_plus plain_le plain_size) }
 {
     alike_have_one_figure::<Plain>()
 }
 
 // Alike plans have one figure, for ranked weights.
-pub fn ranked_alike_have_one_figure() -> u8
+pub fn ranked_alike_have_one_figure()
     ensures { AlikeSame (kind (0, 0) ranked_plus ranked_le ranked_size) }
 {
     alike_have_one_figure::<Ranked>()
 }
 
 // Kept marks stay weakest, for plain weights.
-pub fn plain_edits_keep() -> u8
+pub fn plain_edits_keep()
     ensures { EditsKeep (kind 0 plain_plus plain_le plain_size) }
 {
     edits_keep::<Plain>()
 }
 
 // Kept marks stay weakest, for ranked weights.
-pub fn ranked_edits_keep() -> u8
+pub fn ranked_edits_keep()
     ensures { EditsKeep (kind (0, 0) ranked_plus ranked_le ranked_size) }
 {
     edits_keep::<Ranked>()
