@@ -4,6 +4,7 @@ ghost use Rattle.answers.specs.Answered.{Judged, Least, memory, trial_verdict, T
 ghost use Rattle.contractions.specs.Progress.{Room};
 ghost use Rattle.kept_plans.specs.Filed.{Filed};
 ghost use Rattle.plans.specs.Model.{marked, model_of};
+ghost use Rattle.plans.specs.Sound.{Sound};
 ghost use Rattle.solvers.specs.Answers.{QueueLeft};
 
 use crate::room::check_room;
@@ -27,11 +28,12 @@ fn solve_without<W: Weight, Q: PriorityQueue<Weight = W>>(
     entries: &mut [Entry],
     table: &mut [W],
 ) -> Answer<W>
-    requires filed { Filed W.Weight filing.old }
+    requires plan { Sound W.Weight filing.old.plan }
     requires link { link < length (model_of filing.old.plan).links }
     requires queue { Q.PriorityQueue.sound queue.old }
     requires room { Room (length (model_of filing.old.plan).codes) table.old marks.old entries.old }
-    ensures filed { Filed W.Weight filing.new }
+    ensures plan { Sound W.Weight filing.new.plan }
+    ensures filed { Filed W.Weight filing.old → Filed W.Weight filing.new }
     ensures sound { Q.PriorityQueue.sound queue.new }
     ensures tried { Tried W.Weight filing.old filing.new (memory marks.old entries.old table.old) (memory marks.new entries.new table.new) result link }
     ensures queue { QueueLeft Q.PriorityQueue.key result.scans queue.old queue.new }
@@ -55,9 +57,10 @@ pub fn trial<W: Weight, Q: PriorityQueue<Weight = W>>(
     entries: &mut [Entry],
     table: &mut [W],
 ) -> Result<Answer<W>, Refusal>
-    requires filed { Filed W.Weight filing.old }
+    requires plan { Sound W.Weight filing.old.plan }
     requires queue { Q.PriorityQueue.sound queue.old }
-    ensures filed { Filed W.Weight filing.new }
+    ensures plan { Sound W.Weight filing.new.plan }
+    ensures filed { Filed W.Weight filing.old → Filed W.Weight filing.new }
     ensures sound { Q.PriorityQueue.sound queue.new }
     ensures verdict { Judged (trial_verdict (model_of filing.old.plan) link (length marks.old) (length entries.old) (length table.old)) result }
     ensures tried { IfOk result (λ a. Tried W.Weight filing.old filing.new (memory marks.old entries.old table.old) (memory marks.new entries.new table.new) a link) }

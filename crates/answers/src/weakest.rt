@@ -1,11 +1,12 @@
 // The weakest division of a filing's plan.
-ghost use Rattle.std.specs.Prelude.{◌≡◌, ℕ, ◌≤◌, true, false, length, take, drop, IfOk, MatchResult, OnErr};
+ghost use Rattle.std.specs.Prelude.{◌≡◌, ℕ, ◌≤◌, true, false, length, take, drop, IfOk, MatchResult, OnErr, OnOk};
 ghost use Rattle.answers.specs.Answered.{FromKept, Judged, Least, memory, Unchanged, weakest_verdict, WorkedKept};
 ghost use Rattle.cuts.specs.Divisions.{weight_of};
 ghost use Rattle.cuts.specs.Kinds.{kind_of};
-ghost use Rattle.kept_plans.specs.Filed.{Filed};
+ghost use Rattle.kept_plans.specs.Filed.{Current, Filed};
 ghost use Rattle.plans.specs.Divided.{links_of, side_of};
 ghost use Rattle.plans.specs.Model.{model_of};
+ghost use Rattle.plans.specs.Sound.{Sound};
 ghost use Rattle.solvers.specs.Answers.{QueueLeft};
 
 use crate::room::check_room;
@@ -19,7 +20,7 @@ use weights::weight::Weight;
 
 // Writes the kept marks, and answers them with their present weight.
 fn answer_kept<W: Weight>(filing: &Filing<W>, marks: &mut [u8]) -> Answer<W>
-    requires filed { Filed W.Weight filing.now }
+    requires plan { Sound W.Weight filing.now.plan }
     requires room { length (model_of filing.now.plan).codes ≤ length marks.old }
     ensures kept { result.kept ≡ true }
     ensures mergers { result.mergers ≡ 0 }
@@ -47,14 +48,19 @@ pub fn weakest<W: Weight, Q: PriorityQueue<Weight = W>>(
     entries: &mut [Entry],
     table: &mut [W],
 ) -> Result<Answer<W>, Refusal>
-    requires filed { Filed W.Weight filing.old }
+    requires plan { Sound W.Weight filing.old.plan }
     requires queue { Q.PriorityQueue.sound queue.old }
-    ensures filed { Filed W.Weight filing.new }
+    ensures plan { Sound W.Weight filing.new.plan }
+    ensures filed { Filed W.Weight filing.old → Filed W.Weight filing.new }
     ensures sound { Q.PriorityQueue.sound queue.new }
     ensures verdict { Judged (weakest_verdict (model_of filing.old.plan) (length marks.old) (length entries.old) (length table.old)) result }
     ensures kept { IfOk result (λ a. filing.old.kept.kept ≡ true → FromKept W.Weight filing.old filing.new (memory marks.old entries.old table.old) (memory marks.new entries.new table.new) a) }
     ensures worked { IfOk result (λ a. filing.old.kept.kept ≡ false → WorkedKept W.Weight filing.old filing.new (memory marks.old entries.old table.old) (memory marks.new entries.new table.new) a) }
-    ensures least { IfOk result (λ a. Least W.Weight (model_of filing.old.plan) (W.Weight.value a.figure) marks.new) }
+    ensures filed_anew { OnOk result (filing.old.kept.kept ≡ false → Filed W.Weight filing.new) }
+    ensures least { IfOk result (λ a. Current W.Weight filing.old → Least W.Weight (model_of filing.old.plan) (W.Weight.value a.figure) marks.new) }
+    ensures mergers { IfOk result (λ a. a.mergers ≤ length entries.old) }
+    ensures units { OnOk result (filing.old.plan.unit_count ≤ length marks.old) }
+    ensures same { filing.new.plan.unit_count ≡ filing.old.plan.unit_count }
     ensures refused { OnErr result (Unchanged filing.old filing.new (memory marks.old entries.old table.old) (memory marks.new entries.new table.new)) }
     ensures queue { MatchResult result (λ a. QueueLeft Q.PriorityQueue.key a.scans queue.old queue.new) (λ _. queue.new ≡ queue.old) }
 {

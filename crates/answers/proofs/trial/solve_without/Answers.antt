@@ -14,7 +14,7 @@ put_marks-requires g c =
     let m = model_of c.args.filing.now.plan in
     let value = c.links-links.ensures.value ∙ ap (λ p. (model_of p).links) c.plan-plan.ensures in
     record {
-      filed = c.requires.filed;
+      sound = c.requires.plan;
       size = search rules;
       shows = subst (λ ms. Shows ms m.links) (sym c.fill_without.ensures.same) (subst (Shows c.copy_marks.new.marks) value c.copy_marks.ensures.shows);
     }
@@ -28,7 +28,7 @@ work_out-requires g c =
     let is = c.plan-plan.ensures in
     let units = c.unit_count-n.ensures.units ∙ ap (λ p. length (model_of p).codes) is in
     let value = c.links-links.ensures.value ∙ ap (λ p. (model_of p).links) is in
-    let s = c.requires.filed.plan in
+    let s = c.requires.plan in
     let joins = subst (λ k. AllWithin (Joins w k) links 0 (length links)) (sym c.unit_count-n.ensures.value) c.links-links.ensures.joins in
     let total : total_of w links ≤ 1000000 = let e = ap (total_of w) value in let a = s.counted in let b = s.limited in omega arith in
     record {
@@ -48,13 +48,14 @@ returns g c =
     let is = c.plan-plan.ensures in
     let units = c.unit_count-n.ensures.units ∙ ap (λ p. length (model_of p).codes) is in
     let value = c.links-links.ensures.value ∙ ap (λ p. (model_of p).links) is in
-    let s = c.requires.filed.plan in
+    let s = c.requires.plan in
     let joins = subst (λ k. AllWithin (Joins w k) links 0 (length links)) (sym c.unit_count-n.ensures.value) c.links-links.ensures.joins in
     let total : total_of w links ≤ 1000000 = let e = ap (total_of w) value in let a = s.counted in let b = s.limited in omega arith in
     let light = served_sound w marks n links joins total in
     let out = served_out w c.copy_marks.new.marks c.args.link links c.copy_marks.ensures.shows ∙ ap (λ ls. map (valued w) (changed c.args.link (λ l. with_mark l false) ls)) value in
     let e = c.work_out.ensures in
     record {
+      plan = c.put_marks.ensures.sound;
       filed = c.put_marks.ensures.filed;
       sound = e.sound;
       tried = record {

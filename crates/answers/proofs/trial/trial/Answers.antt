@@ -12,6 +12,7 @@ returns g c =
     let links = c.link_count.ensures.links ∙ ap (λ p. length (model_of p).links) is in
     let e = c.solve_without.ensures in
     record {
+      plan = e.plan;
       filed = e.filed;
       sound = e.sound;
       verdict = trial_accepted (model_of f.plan) c.unit_count-n.result units _ _ _ c.args.link (let h = c.if-link-link_count.false in omega arith) c.in_ok-check_room.ensures.enough;

@@ -16,12 +16,17 @@ returns-then-is_kept g c =
     let kept = sym (ap (λ k. k.kept) c.kept.ensures) ∙ sym c.is_kept.ensures ∙ c.if-is_kept.true in
     let e = c.answer_kept.ensures in
     record {
-      filed = c.requires.filed;
+      plan = c.requires.plan;
+      filed = λ h. h;
       sound = c.requires.queue;
       verdict = weakest_accepted m c.unit_count-n.result units _ _ _ c.if-n-lt2.false c.in_ok-check_room.ensures.enough;
       kept = λ _. record { kept = e.kept; mergers = e.mergers; scans = e.scans; figure = e.figure; front = e.front; rest = e.rest; entries = refl; weights = refl; filing = refl };
       worked = λ out. both_ways f.kept.kept kept out;
-      least = kept_least w m _ _ g.met.W.Weight.laws (fair_plan w f.plan c.requires.filed.plan) f.kept.sides (c.requires.filed.current kept) e.front e.figure;
+      filed_anew = λ out. both_ways f.kept.kept kept out;
+      least = λ current. kept_least w m _ _ g.met.W.Weight.laws (fair_plan w f.plan c.requires.plan) f.kept.sides (current kept) e.front e.figure;
+      mergers = let none = e.mergers in omega arith;
+      units = let u = unit_size w f.plan c.requires.plan in let r = c.in_ok-check_room.ensures.room.0 in omega arith;
+      same = refl;
       refused = tt;
       queue = record { unscanned = λ _. refl; scanned = λ some. absurd (let none = e.scans in omega arith) };
     }
@@ -36,9 +41,9 @@ keep-requires g c =
     let two : 2 ≤ length m.codes = let h = c.if-n-lt2.false in omega arith in
     let answer : WorkedOut w m c.solve-answer.result c.solve-answer.new.marks c.solve-answer.new.entries = subst (λ p. WorkedOut w (model_of p) c.solve-answer.result c.solve-answer.new.marks c.solve-answer.new.entries) c.plan-2.ensures e.answer in
     record {
-      filed = c.requires.filed;
-      marks = outcome_marks w g.met.W.Weight.laws m (fair_plan w f.plan c.requires.filed.plan) two _ c.solve-answer.new.marks _ _ answer.allowed;
-      size = let u = unit_size w f.plan c.requires.filed.plan in let r = c.in_ok-check_room.ensures.room.0 in let k = c.solve-answer.auto.marks in omega arith;
+      sound = c.requires.plan;
+      marks = outcome_marks w g.met.W.Weight.laws m (fair_plan w f.plan c.requires.plan) two _ c.solve-answer.new.marks _ _ answer.allowed;
+      size = let u = unit_size w f.plan c.requires.plan in let r = c.in_ok-check_room.ensures.room.0 in let k = c.solve-answer.auto.marks in omega arith;
     }
 
 pub returns : goal.returns
@@ -52,7 +57,8 @@ returns g c =
     let is = c.plan-2.ensures in
     let answer : WorkedOut w m c.solve-answer.result c.solve-answer.new.marks c.solve-answer.new.entries = subst (λ p. WorkedOut w (model_of p) c.solve-answer.result c.solve-answer.new.marks c.solve-answer.new.entries) is e.answer in
     record {
-      filed = c.keep.ensures.filed;
+      plan = c.keep.ensures.sound;
+      filed = λ _. c.keep.ensures.filed;
       sound = e.sound;
       verdict = weakest_accepted m c.unit_count-n.result units _ _ _ c.if-n-lt2.false c.in_ok-check_room.ensures.enough;
       kept = λ kept. both_ways f.kept.kept kept out;
@@ -61,9 +67,13 @@ returns g c =
         behind = subst (λ p. LeftBehind w (length (model_of p).codes) c.solve-answer.result.mergers c.args.table.now c.solve-answer.new.table c.args.marks.now c.solve-answer.new.marks c.args.entries.now c.solve-answer.new.entries) is e.memory;
         plan = c.keep.ensures.plan;
         kept = c.keep.ensures.kept;
-        sides = subst (λ k. take k c.keep.new.self.kept.sides ≡ take k c.solve-answer.new.marks) (sym (unit_size w f.plan c.requires.filed.plan)) c.keep.ensures.sides;
+        sides = subst (λ k. take k c.keep.new.self.kept.sides ≡ take k c.solve-answer.new.marks) (sym (unit_size w f.plan c.requires.plan)) c.keep.ensures.sides;
       };
-      least = promised_least w m _ _ _ answer.promised;
+      filed_anew = λ _. c.keep.ensures.filed;
+      least = λ _. promised_least w m _ _ _ answer.promised;
+      mergers = let few = answer.promised.few in let r = c.in_ok-check_room.ensures.room.1 in omega arith;
+      units = let u = unit_size w f.plan c.requires.plan in let r = c.in_ok-check_room.ensures.room.0 in omega arith;
+      same = ap (λ p. p.unit_count) c.keep.ensures.plan;
       refused = tt;
       queue = e.queue;
     }

@@ -14,7 +14,8 @@ returns g c =
     let count = c.unit_count-n.ensures in
     let front = rw count.value at c.keep.ensures.sides in
     record {
-      filed = record { plan = c.requires.filed.plan; sides = c.keep.ensures.size; current = λ flag. marks_below w g.met.W.Weight.laws (model_of p) (fair_plan w p c.requires.filed.plan) given sides (rw (unit_size w p c.requires.filed.plan) (sym front)) c.requires.marks };
+      sound = c.requires.sound;
+      filed = record { plan = c.requires.sound; sides = c.keep.ensures.size; current = λ flag. marks_below w g.met.W.Weight.laws (model_of p) (fair_plan w p c.requires.sound) given sides (rw (unit_size w p c.requires.sound) (sym front)) c.requires.marks };
       plan = refl;
       kept = c.keep.ensures.kept;
       sides = front;

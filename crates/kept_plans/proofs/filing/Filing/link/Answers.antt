@@ -16,10 +16,11 @@ returns g c =
     let l : Link g.row.W.Denot = record { first = a; second = b; in_service = true; weight = c.args.weight } in
     let done = c.in_ok-link.ensures in
     let settled = c.settle.ensures in
-    let current = stays_current w f _ (is_one_side f.kept.sides a b) (linked l (model_of f.plan)) c.requires.plan done.sound (now_next done.called) settled.kept settled.sides
+    let current = stays_current w f _ (is_one_side f.kept.sides a b) (linked l (model_of f.plan)) c.requires done.sound (now_next done.called) settled.kept settled.sides
     (λ fair new marks stay. linked_stays w met.laws met.bounded (model_of f.plan) f.kept.sides fair marks l new stay) in
     record {
-      filed = record { plan = done.sound; sides = ap length settled.sides ∙ c.requires.sides; current = current c.requires.current };
+      sound = done.sound;
+      filed = λ h. record { plan = done.sound; sides = ap length settled.sides ∙ h.sides; current = current h.current };
       called = done.called;
       kept = (settled.kept, settled.sides);
     }

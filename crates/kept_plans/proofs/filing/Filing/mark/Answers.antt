@@ -16,11 +16,12 @@ returns g c =
     let was = c.in_ok-old.ensures.value in
     let done = c.in_ok-mark.ensures in
     let settled = c.settle.ensures in
-    let kept = (settled.kept ∙ ap (λ e. f.kept.kept && outlives f.kept.sides e) c.mark_edit.ensures.edit) ∙ ap (λ b. f.kept.kept && b) (outlives_it w f.plan c.requires.plan f.kept.sides (mark_of c.args.mark) k old was.0 was.1) in
-    let current = stays_current w f _ (stays w m f.kept.sides (marking k c.args.mark)) (marked k (eqb c.args.mark 1) m) c.requires.plan done.sound (now_next done.called) kept settled.sides
-    (λ fair new marks stay. marked_stays w met.laws met.bounded m f.kept.sides fair marks k (in_model w f.plan c.requires.plan k old was.0 was.1).0 c.args.mark (mark_below m k c.args.mark (was_accepted done.called)) new stay) in
+    let kept = (settled.kept ∙ ap (λ e. f.kept.kept && outlives f.kept.sides e) c.mark_edit.ensures.edit) ∙ ap (λ b. f.kept.kept && b) (outlives_it w f.plan c.requires f.kept.sides (mark_of c.args.mark) k old was.0 was.1) in
+    let current = stays_current w f _ (stays w m f.kept.sides (marking k c.args.mark)) (marked k (eqb c.args.mark 1) m) c.requires done.sound (now_next done.called) kept settled.sides
+    (λ fair new marks stay. marked_stays w met.laws met.bounded m f.kept.sides fair marks k (in_model w f.plan c.requires k old was.0 was.1).0 c.args.mark (mark_below m k c.args.mark (was_accepted done.called)) new stay) in
     record {
-      filed = record { plan = done.sound; sides = ap length settled.sides ∙ c.requires.sides; current = current c.requires.current };
+      sound = done.sound;
+      filed = λ h. record { plan = done.sound; sides = ap length settled.sides ∙ h.sides; current = current h.current };
       called = done.called;
       kept = (kept, settled.sides);
     }

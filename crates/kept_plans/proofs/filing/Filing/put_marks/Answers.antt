@@ -8,10 +8,11 @@ returns g c =
     let f = c.args.self.now in
     let same = c.put_marks.ensures.same c.requires.shows in
     record {
-      filed = record {
+      sound = c.put_marks.ensures.sound;
+      filed = λ h. record {
         plan = c.put_marks.ensures.sound;
-        sides = c.requires.filed.sides;
-        current = λ kept. subst (λ m. Marks g.W.Weight m f.kept.sides) (sym (untouched_model f.plan c.put_marks.new.self same)) (c.requires.filed.current kept);
+        sides = h.sides;
+        current = λ kept. subst (λ m. Marks g.W.Weight m f.kept.sides) (sym (untouched_model f.plan c.put_marks.new.self same)) (h.current kept);
       };
       kept = refl;
       same = same;

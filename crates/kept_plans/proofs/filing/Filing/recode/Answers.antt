@@ -13,10 +13,11 @@ returns g c =
     let f = c.args.self.now in
     let done = c.in_ok-recode.ensures in
     let settled = c.settle.ensures in
-    let current = stays_current w f _ (outlives f.kept.sides Recode) (recoded c.args.unit c.args.text.now (model_of f.plan)) c.requires.plan done.sound (now_next done.called) settled.kept settled.sides
+    let current = stays_current w f _ (outlives f.kept.sides Recode) (recoded c.args.unit c.args.text.now (model_of f.plan)) c.requires done.sound (now_next done.called) settled.kept settled.sides
     (λ fair new marks stay. recoded_stays w met.laws met.bounded (model_of f.plan) f.kept.sides fair marks c.args.unit c.args.text.now) in
     record {
-      filed = record { plan = done.sound; sides = ap length settled.sides ∙ c.requires.sides; current = current c.requires.current };
+      sound = done.sound;
+      filed = λ h. record { plan = done.sound; sides = ap length settled.sides ∙ h.sides; current = current h.current };
       called = done.called;
       kept = (settled.kept, settled.sides);
     }

@@ -16,11 +16,12 @@ returns g c =
     let was = c.in_ok-old.ensures.value in
     let done = c.in_ok-strike.ensures in
     let settled = c.settle.ensures in
-    let kept = settled.kept ∙ ap (λ b. f.kept.kept && b) (outlives_it w f.plan c.requires.plan f.kept.sides strike_of k old was.0 was.1) in
-    let current = stays_current w f _ (stays w m f.kept.sides (striking k)) (struck k m) c.requires.plan done.sound (now_next done.called) kept settled.sides
-    (λ fair new marks stay. struck_stays w met.laws met.bounded m f.kept.sides fair marks k (in_model w f.plan c.requires.plan k old was.0 was.1).0 new stay) in
+    let kept = settled.kept ∙ ap (λ b. f.kept.kept && b) (outlives_it w f.plan c.requires f.kept.sides strike_of k old was.0 was.1) in
+    let current = stays_current w f _ (stays w m f.kept.sides (striking k)) (struck k m) c.requires done.sound (now_next done.called) kept settled.sides
+    (λ fair new marks stay. struck_stays w met.laws met.bounded m f.kept.sides fair marks k (in_model w f.plan c.requires k old was.0 was.1).0 new stay) in
     record {
-      filed = record { plan = done.sound; sides = ap length settled.sides ∙ c.requires.sides; current = current c.requires.current };
+      sound = done.sound;
+      filed = λ h. record { plan = done.sound; sides = ap length settled.sides ∙ h.sides; current = current h.current };
       called = done.called;
       kept = (kept, settled.sides);
     }
