@@ -83,12 +83,12 @@ module _ {n : ℕ} {pairs : List (ℕ × ℕ)} {f : Found} (notes : Notes n pair
 
     -- of two classes: they become one, and the pair is noted
     pub noted_new : {low high : ℕ} {joined : Groups} (f' : Found) → low ≡ min x y → high ≡ max x y
-        → ((k : ℕ) (es : List Entry) (e : Entry) → Joins k [] es → stands k es low ≡ true → stands k es high ≡ true → e.low ≡ low → e.high ≡ high → Tracks k es f.classes → Tracks k (es ++ (e ∷ [])) joined)
+        → ((k : ℕ) (es : List Entry) (e : Entry) → Joins k [] es → stands k es low ≡ true → stands k es high ≡ true → low < high → e.low ≡ low → e.high ≡ high → Tracks k es f.classes → Tracks k (es ++ (e ∷ [])) joined)
         → f'.classes ≡ joined → f'.count ≡ f.count + 1 → f'.pairs ≡ set f.pairs f.count (a, b) → Notes n (pairs ++ ((a, b) ∷ [])) f'
     noted_new f' is-low is-high join is count new = record {
       mergers = notes.mergers ++ (joining ∷ []);
       joins = joins_more n [] notes.mergers joining notes.joins stand.0 stand.1 (omega (arith, apart));
-      tracks = rw is (join n notes.mergers joining notes.joins (rw is-low stand.0) (rw is-high stand.1) (sym is-low) (sym is-high) notes.tracks);
+      tracks = rw is (join n notes.mergers joining notes.joins (rw is-low stand.0) (rw is-high stand.1) (omega (arith, apart)) (sym is-low) (sym is-high) notes.tracks);
       classes_are = λ u l. after_more notes.mergers joining u ∙ bring u l ∙ ap (λ (c : ℕ → ℕ). c u) (sym (classes_more (λ z. z) pairs (a, b)));
       pairs_are = ap₂ take count new ∙ pushed ∙ ap (λ r. r ++ ((a, b) ∷ [])) notes.pairs_are ∙ sym (noted_more (λ z. z) pairs (a, b) ∙ ap (λ r. noted (λ z. z) pairs ++ r) (cond-false _ [] ((a, b) ∷ []) (ne_eqb _ _ differ)));
     }

@@ -1,5 +1,5 @@
 -- What holds in the turn of a group that was taken, as the groups that wait are raised one after another.
-use Rattle.std.proofs.Common.{◌≡◌, ℕ, ◌+◌, ◌<◌, ◌≤◌, Bool, true, false, List, [], ◌∷◌, ◌++◌, get_or, Some, None, Ok, Option, sym, refl, ap, ◌∙◌, subst, ap₂, subst₂, append-nil, arith}
+use Rattle.std.proofs.Common.{◌≡◌, ℕ, ◌+◌, ◌<◌, ◌≤◌, Bool, true, false, List, [], ◌∷◌, ◌++◌, get_or, Some, None, Ok, Err, Option, Result, sym, refl, ap, ◌∙◌, subst, ⊎_elim, ap₂, subst₂, append-nil, arith}
 use Rattle.std.proofs.lemmas.Bool.{cond-true, both_ways}
 use Rattle.weights.specs.declared.weight.Weight.{Ghosts}
 use Rattle.weights.specs.Laws.{limit}
@@ -10,11 +10,12 @@ use Rattle.cuts.specs.Groups.{joint}
 use Rattle.cuts.specs.Scans.{has, key, raised, finds}
 use Rattle.cuts.proofs.Facts.{key_more}
 use Rattle.cuts.proofs.Names.{stands_less}
+use Rattle.refusals.specs.declared.Refusal.{Refusal}
 use Rattle.queues.specs.Keys.{Raised}
 use Rattle.tables.specs.Meaning.{at}
 use Rattle.scans.specs.declared.found.Found.{Found}
 use Rattle.scans.specs.Scanned.{Notes}
-use Rattle.scans.specs.Waits.{Above, Waits, rest, Keyed, Turn}
+use Rattle.scans.specs.Waits.{Above, Waits, comes_to, rest, Keyed, Turn}
 use Rattle.scans.proofs.Waiting.{waits_here, waits_some, waits_change, waits_same}
 use Rattle.scans.proofs.Turns.{rest_stands, rest_apart, mixed, mixed_old, mixed_new, mixed_apart, mixed_same, finds_not, finds_one, gone_not, light_not, short_not, reached_is, raise_fits, unraised}
 
@@ -66,7 +67,7 @@ module _ {W : Type 0} {m : Ghosts W} {n : ℕ} {ls : List (Link m.Value)} {es : 
 
       module _ (by : W) (above : Above m (at m table n v w) (Some by)) where
         -- w waits, and the sum is not refused
-        pub raise_can : (k : W) × (keys w ≡ Some k) × (m.size (m.value k) + m.size (m.value by) ≤ limit)
+        raise_can : (k : W) × (keys w ≡ Some k) × (m.size (m.value k) + m.size (m.value by) ≤ limit)
         raise_can =
             let (k, e, is) = waits_here raising.waits w here in
             (k, e, rw (is_old k e, above.0, is_joint) (raise_fits (kind_of m) n ls es v taken laws turn.sound w))
@@ -79,22 +80,33 @@ module _ {W : Type 0} {m : Ghosts W} {n : ℕ} {ls : List (Link m.Value)} {es : 
           grown = waits_change raising.waits w (Some r) answer.1
               (ap Some (is_key ∙ sym (mixed_new (kind_of m) n ls es v taken (w + 1) w (omega arith))) ∙ sym (cond-true (rest n es (v ∷ taken) w) _ None here)) (λ x _. refl) (mixed_apart (kind_of m) n ls es v taken w)
 
+        module _ {after : ℕ → Option W} where
+          refused : (refusal : Refusal) → Raised m.value m.plus m.size keys after w by (Err refusal) → ⊥
+          refused refusal rise =
+              let (old, here, fits) = raise_can in
+              ⊎_elim
+              (λ absent. let none = absent.0 in let z : ◌≡◌ {A = ℕ} 0 1 = cc in omega arith)
+              (λ over. let (was, is, much, _) = over in let same : m.size (m.value was) ≡ m.size (m.value old) = cc in omega arith)
+              rise.0
+
           -- the new key does not come to the bound
-          pub raise_short : m.le bound (m.value r) ≡ false → (f' : Found) → f' ≡ f → Raising m n ls es taken v bound first after f' (w + 1)
-          raise_short short f' is = record {
-            waits = grown;
-            notes = λ before h. subst₂ (Notes n) (finds_not (kind_of m) n ls es v taken before bound w (short_not (kind_of m) n ls es v taken bound w (subst (λ x. m.le bound x ≡ false) is_key short))) (sym is) (raising.notes before h);
+          pub raise_short : (answer : Result W Refusal) → Raised m.value m.plus m.size keys after w by answer → comes_to m bound answer ≡ false → (f' : Found) → f' ≡ f → Raising m n ls es taken v bound first after f' (w + 1)
+          raise_short (Err refusal) rise short f' is = absurd (refused refusal rise)
+          raise_short (Ok r) rise short f' is = record {
+            waits = grown r rise;
+            notes = λ before h. subst₂ (Notes n) (finds_not (kind_of m) n ls es v taken before bound w (short_not (kind_of m) n ls es v taken bound w (subst (λ x. m.le bound x ≡ false) (is_key r rise) short))) (sym is) (raising.notes before h);
           }
 
           -- it does, and the pair is noted
-          pub raise_found : m.le bound (m.value r) ≡ true → {noted : Found} → ((k : ℕ) (before : List (ℕ × ℕ)) → Notes k before f → Notes k (before ++ ((v, w) ∷ [])) noted) → (f' : Found) → f' ≡ noted → Raising m n ls es taken v bound first after f' (w + 1)
-          raise_found reached note f' is = record {
-            waits = grown;
+          pub raise_found : (answer : Result W Refusal) → Raised m.value m.plus m.size keys after w by answer → comes_to m bound answer ≡ true → {noted : Found} → ((k : ℕ) (before : List (ℕ × ℕ)) → Notes k before f → Notes k (before ++ ((v, w) ∷ [])) noted) → (f' : Found) → f' ≡ noted → Raising m n ls es taken v bound first after f' (w + 1)
+          raise_found (Err refusal) rise reached note f' is = absurd (refused refusal rise)
+          raise_found (Ok r) rise reached note f' is = record {
+            waits = grown r rise;
             notes = λ before h. subst₂ (Notes n) (finds_one (kind_of m) n ls es v taken before bound w found) (sym is) (note n _ (raising.notes before h));
           }
             where
               found : raised (kind_of m) n ls es bound v taken w ≡ true
-              found = reached_is (kind_of m) n ls es v taken bound w here (subst (λ x. m.le x m.zero ≡ false) is_joint above.1) (subst (λ x. m.le bound x ≡ true) is_key reached)
+              found = reached_is (kind_of m) n ls es v taken bound w here (subst (λ x. m.le x m.zero ≡ false) is_joint above.1) (subst (λ x. m.le bound x ≡ true) (is_key r rise) reached)
 
   -- every group is raised
   module _ {bound : m.Value} {first f : Found} {keys : ℕ → Option W} {w : ℕ} (end : w ≡ n) (raising : Raising m n ls es taken v bound first keys f w) where

@@ -1,5 +1,5 @@
 -- What holds between two turns of a scan.
-use Rattle.std.proofs.Common.{◌≡◌, ℕ, ◌<◌, ◌≤◌, Bool, true, false, ◌&&◌, ltb, List, [], ◌∷◌, length, get_or, set, None, Option, sym, refl, ◌∙◌, ⊎_elim, arith}
+use Rattle.std.proofs.Common.{◌≡◌, ℕ, ◌<◌, ◌≤◌, Bool, true, false, ◌&&◌, ltb, List, [], ◌∷◌, length, get_or, set, None, Option, sym, refl, ⊎_elim, arith}
 use Rattle.std.proofs.lemmas.Bool.Decides.{nat_tests}
 use Rattle.std.proofs.lemmas.Bool.{cases_lt, cond-false, and_from, not_from_false}
 use Rattle.weights.specs.declared.weight.Weight.{Ghosts}
@@ -53,12 +53,9 @@ module _ {W : Type 0} {m : Ghosts W} (laws : Lawful (kind_of m)) {n : ℕ} {ls :
       here : (rest n es taking.taken v ≡ true) × (m.value k ≡ key (kind_of m) n ls es taking.taken v)
       here = waits_some taking.keyed v k top.here
 
-      -- the group taken is one of those that stand, and is marked
-      pub taken_below : v < n
+      -- the group taken is one of those that stand
+      taken_below : v < n
       taken_below = stands_less n es v (rest_stands n es taking.taken v here.0).0
-
-      pub taken_marked : get_or marks v false ≡ true
-      taken_marked = taking.marked.each v ∙ here.0
 
       pub turn : {after : ℕ → Option W} → n ≤ length marks → Becomes keys after v None → Turn m n ls es taking.taken v table after (set marks v false)
       turn room becomes = record {

@@ -1,10 +1,13 @@
 -- How who waits, and the marks of it, follow what a queue's calls do.
-use Rattle.std.proofs.Common.{◌≡◌, ℕ, zero, suc, ◌<◌, Bool, true, false, cond, List, length, get_or, set, replicate, Some, None, Option, sym, refl, ap, ◌∙◌, ap₂, ⊎_elim, arith}
+use Rattle.std.proofs.Common.{◌≡◌, ℕ, zero, suc, ◌<◌, Bool, true, false, cond, eqb, List, length, get_or, set, replicate, Some, None, Ok, Err, Option, Result, sym, refl, ap, ◌∙◌, ap₂, ⊎_elim, arith}
 use Rattle.std.proofs.lemmas.List.{get_or-set_other, get_or-set_same}
 use Rattle.std.proofs.lemmas.Map.{update_here, update_apart}
 use Rattle.std.proofs.lemmas.Bool.{cases_eq, cases_Bool, cond-true, cond-false}
-use Rattle.queues.specs.Keys.{Becomes, Empty}
-use Rattle.scans.specs.Waits.{worth, Waits, Marks}
+use Rattle.std.specs.Map.{update}
+use Rattle.refusals.specs.declared.Refusal.{Refusal}
+use Rattle.weights.specs.declared.weight.Weight.{Ghosts}
+use Rattle.queues.specs.Keys.{Becomes, Empty, Raised}
+use Rattle.scans.specs.Waits.{worth, Waits, Marks, AllMarked}
 
 module _ {W V : Type 0} {value : W → V} {keys : ℕ → Option W} {p : ℕ → Bool} {m : ℕ → V} (waits : Waits value keys p m) where
   -- the key of a group of p
@@ -73,3 +76,40 @@ unmarked n = record { each = none n }
     none zero x = refl
     none (suc n) zero = refl
     none (suc n) (suc x) = none n x
+
+-- nobody waits
+pub marked_none : {W : Type 0} (n : ℕ) {keys : ℕ → Option W} (marks : List Bool) → Empty keys → AllMarked n keys marks
+marked_none n marks empty = record { each = λ x k e. let none = empty x in let z : ◌≡◌ {A = ℕ} 0 1 = cc in absurd (omega arith) }
+
+module _ {W : Type 0} {n : ℕ} {keys after : ℕ → Option W} {marks : List Bool} (all : AllMarked n keys marks) (g : ℕ) where
+  -- all but g wait as before
+  others : (o : Option W) → Becomes keys after g o → (x : ℕ) (k : W) → after x ≡ Some k → (x ≡ g → ⊥) → (x < n) × (get_or marks x false ≡ true)
+  others o becomes x k e ne = all.each x k (sym (becomes x ∙ update_apart keys g o x ne) ∙ e)
+
+  -- g waits now, and is marked
+  pub marked_put : (k : W) → g < n → g < length marks → Becomes keys after g (Some k) → AllMarked n after (set marks g true)
+  marked_put k l room becomes = record {
+    each = λ x j e. ⊎_elim
+        (λ (is : x ≡ g). rw is (l, get_or-set_same marks g true false room))
+        (λ (ne : x ≡ g → ⊥). let was = others (Some k) becomes x j e ne in (was.0, get_or-set_other marks g x true false ne ∙ was.1))
+        (cases_eq x g);
+  }
+
+  -- g waits no more
+  pub marked_taken : Becomes keys after g None → AllMarked n after (set marks g false)
+  marked_taken becomes = record {
+    each = λ x j e. ⊎_elim
+        (λ (is : x ≡ g). let gone = becomes x ∙ ap (λ y. update eqb keys g None y) is ∙ update_here keys g None in let z : ◌≡◌ {A = ℕ} 0 1 = cc in absurd (omega arith))
+        (λ (ne : x ≡ g → ⊥). let was = others None becomes x j e ne in (was.0, get_or-set_other marks g x false false ne ∙ was.1))
+        (cases_eq x g);
+  }
+
+  -- g is raised, or the sum is refused
+  pub marked_raised : (m : Ghosts W) (by : W) (answer : Result W Refusal) → Raised m.value m.plus m.size keys after g by answer → AllMarked n after marks
+  marked_raised m by (Ok k) raised = record {
+    each = λ x j e. ⊎_elim
+        (λ (is : x ≡ g). rw is (all.each g raised.0.0 raised.0.1))
+        (λ (ne : x ≡ g → ⊥). others (Some k) raised.1 x j e ne)
+        (cases_eq x g);
+  }
+  marked_raised m by (Err refusal) raised = record { each = λ x j e. all.each x j (sym (raised.1 x) ∙ e) }

@@ -1,5 +1,6 @@
 -- Who waits in the course of a scan, and with which key.
-use Rattle.std.specs.Prelude.{◌≡◌, ℕ, Bool, true, false, cond, not, ◌&&◌, List, ◌∷◌, Some, None, Option, nat_lt, slice_index_or}
+use Rattle.std.specs.Prelude.{◌≡◌, ℕ, ◌<◌, Bool, true, false, cond, not, ◌&&◌, List, ◌∷◌, Some, None, Ok, Err, Option, Result, nat_lt, slice_index_or}
+use Rattle.refusals.specs.declared.Refusal.{Refusal}
 use Rattle.weights.specs.declared.weight.Weight.{Ghosts}
 use Rattle.cuts.specs.declared.entry.Entry.{Entry}
 use Rattle.cuts.specs.Kinds.{kind_of}
@@ -21,6 +22,15 @@ pub record Waits {W V : Type 0} (value : W → V) (keys : ℕ → Option W) (p :
 -- exactly the groups of p are marked
 pub record Marks (marks : List Bool) (p : ℕ → Bool) : Type 0 where
   pub each : (x : ℕ) → slice_index_or marks x false ≡ p x
+
+-- each group that waits is one of the first n, and is marked
+pub record AllMarked {W : Type 0} (n : ℕ) (keys : ℕ → Option W) (marks : List Bool) : Type 0 where
+  pub each : (x : ℕ) (k : W) → keys x ≡ Some k → (x < n) × (slice_index_or marks x false ≡ true)
+
+-- whether a new key comes to the bound; a refused one does not
+abbrev pub comes_to : {W : Type 0} (g : Ghosts W) → g.Value → Result W Refusal → Bool
+comes_to g bound (Ok k) = g.le bound (g.value k)
+comes_to g bound (Err _) = false
 
 -- a weight of the value v, where that is above nothing
 abbrev pub Above : {W : Type 0} (g : Ghosts W) → g.Value → Option W → Type 0

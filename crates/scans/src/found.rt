@@ -10,6 +10,7 @@ pub mod notes;
 pub struct Found {
     // the groups that the pairs so far would make
     classes: Groups,
+    // memory is fixed, so the pairs lie in an array, with their number beside it
     count: usize,
     pairs: [(usize, usize); 64],
     ghost sized: { length pairs ≡ 64 },

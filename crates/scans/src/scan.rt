@@ -1,14 +1,14 @@
 // A scan: the groups are taken one by one, heaviest key first, each raising those that still wait.
-ghost use Rattle.std.specs.Prelude.{◌≡◌, ℕ, ◌+◌, ◌*◌, ◌<◌, ◌≤◌, false, List, ◌∷◌, ◌++◌, length, Some, None, Ok};
+ghost use Rattle.std.specs.Prelude.{◌≡◌, ℕ, ◌+◌, ◌*◌, ◌<◌, ◌≤◌, false, List, ◌∷◌, ◌++◌, length, Some, None, Result};
 ghost use Rattle.cuts.specs.declared.entry.Entry.{Entry};
 ghost use Rattle.cuts.specs.Kinds.{kind_of};
 ghost use Rattle.cuts.specs.Links.{Link};
 ghost use Rattle.cuts.specs.Scans.{finds};
 ghost use Rattle.queues.specs.Keys.{Becomes, Empty, Raised};
+ghost use Rattle.refusals.specs.declared.Refusal.{Refusal};
 ghost use Rattle.scans.specs.Scanned.{Notes, pairs_of, Scanned};
-ghost use Rattle.scans.specs.Waits.{Above, Keyed, Marks, present, Turn, Waits};
-ghost use Rattle.tables.specs.Meaning.{at, Explained, Explains};
-ghost use Rattle.weights.specs.Laws.{limit};
+ghost use Rattle.scans.specs.Waits.{Above, AllMarked, comes_to, Keyed, Marks, present, Turn, Waits};
+ghost use Rattle.tables.specs.Meaning.{at, Explains};
 
 use crate::found::Found;
 use queues::queue::PriorityQueue;
@@ -41,10 +41,10 @@ fn put_all<W: Weight, Q: PriorityQueue<Weight = W>>(
     requires empty { Empty (Q.PriorityQueue.key queue.old) }
     requires units { groups.now.units ≡ n }
     requires room { n ≤ length waiting.old }
-    requires unmarked { Marks waiting.old (λ _. false) }
     ensures sound { Q.PriorityQueue.sound queue.new }
     ensures waits { Waits W.Weight.value (Q.PriorityQueue.key queue.new) (present n groups.now) (λ _. W.Weight.zero) }
-    ensures marks { Marks waiting.new (present n groups.now) }
+    ensures marked { AllMarked n (Q.PriorityQueue.key queue.new) waiting.new }
+    ensures marks { Marks waiting.old (λ _. false) → Marks waiting.new (present n groups.now) }
 {
     for g in 0..n {
         if !groups.stands(g) {
@@ -70,7 +70,7 @@ fn some_joint<W: Weight>(table: &[W], n: usize, v: usize, w: usize) -> Option<W>
     Some(joint)
 }
 
-// Raises a group that waits, where the sum is known to keep the limit, and tells whether its new key comes to best.
+// Raises a group, and tells whether its new key comes to best. Where it does not wait, or the sum is refused, nothing changes.
 fn raised_to<W: Weight, Q: PriorityQueue<Weight = W>>(
     queue: &mut Q,
     group: usize,
@@ -78,13 +78,12 @@ fn raised_to<W: Weight, Q: PriorityQueue<Weight = W>>(
     best: W,
 ) -> bool
     requires sound { Q.PriorityQueue.sound queue.old }
-    requires fits { (old : W) × (Q.PriorityQueue.key queue.old group ≡ Some old) × (W.Weight.size (W.Weight.value old) + W.Weight.size (W.Weight.value by) ≤ limit) }
     ensures sound { Q.PriorityQueue.sound queue.new }
-    ensures raised { (key : W) × Raised W.Weight.value W.Weight.plus W.Weight.size (Q.PriorityQueue.key queue.old) (Q.PriorityQueue.key queue.new) group by (Ok key) × (result ≡ W.Weight.le (W.Weight.value best) (W.Weight.value key)) }
+    ensures raised { (answer : Result W Refusal) × Raised W.Weight.value W.Weight.plus W.Weight.size (Q.PriorityQueue.key queue.old) (Q.PriorityQueue.key queue.new) group by answer × (result ≡ comes_to W.Weight (W.Weight.value best) answer) }
 {
     match queue.raise(group, by) {
         Ok(key) => best.at_most(key),
-        Err(_) => unreachable(),
+        Err(_) => false,
     }
 }
 
@@ -103,9 +102,11 @@ fn raise_all<W: Weight, Q: PriorityQueue<Weight = W>>(
     requires size { n * n ≤ length table.now }
     requires room { n ≤ length waiting.now }
     requires v { v < n }
-    requires turn { (ls : List (Link W.Weight.Value)) × (es : List Entry) × (taken : List ℕ) × Turn W.Weight n ls es taken v table.now (Q.PriorityQueue.key queue.old) waiting.now }
-    requires notes { (before : List (ℕ × ℕ)) × Notes n before found.old }
+    requires units { found.old.classes.units ≡ n }
+    requires marked { AllMarked n (Q.PriorityQueue.key queue.old) waiting.now }
     ensures sound { Q.PriorityQueue.sound queue.new }
+    ensures units { found.new.classes.units ≡ n }
+    ensures marked { AllMarked n (Q.PriorityQueue.key queue.new) waiting.now }
     ensures keyed { (ls : List (Link W.Weight.Value)) (es : List Entry) (taken : List ℕ) → Turn W.Weight n ls es taken v table.now (Q.PriorityQueue.key queue.old) waiting.now → Keyed W.Weight n ls es (v ∷ taken) (Q.PriorityQueue.key queue.new) }
     ensures notes { (ls : List (Link W.Weight.Value)) (es : List Entry) (taken : List ℕ) → Turn W.Weight n ls es taken v table.now (Q.PriorityQueue.key queue.old) waiting.now → (before : List (ℕ × ℕ)) → Notes n before found.old → Notes n (before ++ finds (kind_of W.Weight) n ls es (W.Weight.value best) v taken n) found.new }
 {
@@ -131,8 +132,8 @@ pub fn scan<W: Weight, Q: PriorityQueue<Weight = W>>(
     best: W,
 ) -> Found
     requires sound { Q.PriorityQueue.sound queue.old }
+    requires units { groups.now.units ≡ n }
     requires size { n * n ≤ length table.now }
-    requires explained { Explained W.Weight n table.now groups.now }
     ensures sound { Q.PriorityQueue.sound queue.new }
     ensures emptied { Empty (Q.PriorityQueue.key queue.new) }
     ensures found { (ls : List (Link W.Weight.Value)) (es : List Entry) → Explains W.Weight n ls es table.now groups.now → Scanned (kind_of W.Weight) n ls es (W.Weight.value best) (pairs_of result) }

@@ -1,6 +1,6 @@
 // Notes found pairs, and tells them again.
-ghost use Rattle.std.specs.Prelude.{◌≡◌, ℕ, ◌+◌, ◌<◌, ◌≤◌, List, [], ◌∷◌, ◌++◌, slice_index_or, slice_set};
-ghost use Rattle.scans.specs.Scanned.{Notes};
+ghost use Rattle.std.specs.Prelude.{◌≡◌, ℕ, ◌+◌, ◌<◌, ◌≤◌, List, [], ◌∷◌, ◌++◌, length, slice_index_or, slice_set};
+ghost use Rattle.scans.specs.Scanned.{Notes, pairs_of};
 
 use crate::found::Found;
 use tables::groups::Groups;
@@ -9,7 +9,9 @@ impl Found {
     // At first nothing is found.
     pub fn none(units: usize) -> Found
         requires { units ≤ 64 }
-        ensures { Notes units [] result }
+        ensures notes { Notes units [] result }
+        ensures units { result.classes.units ≡ units }
+        ensures count { result.count ≡ 0 }
     {
         Found {
             classes: Groups::single(units),
@@ -34,16 +36,25 @@ impl Found {
         self.pairs[i]
     }
 
-    // Notes a pair, unless its groups are together already.
+    // All pairs that were noted, in the order in which they were found.
+    pub fn pairs(&self) -> &[(usize, usize)]
+        ensures value { result.now ≡ pairs_of self.now }
+        ensures len { length result.now ≡ self.now.count }
+        ensures within { (k : ℕ) → k < length result.now → ((slice_index_or result.now k (0, 0)).0 < self.now.classes.units) × ((slice_index_or result.now k (0, 0)).1 < self.now.classes.units) }
+    {
+        &self.pairs[..self.count]
+    }
+
+    // Notes a pair, unless its groups are together already, as all are where one class is left.
     pub fn note(&mut self, a: usize, b: usize)
         requires a { a < self.old.classes.units }
         requires b { b < self.old.classes.units }
-        requires notes { (n : ℕ) × (before : List (ℕ × ℕ)) × Notes n before self.old }
-        ensures { (n : ℕ) (before : List (ℕ × ℕ)) → Notes n before self.old → Notes n (before ++ ((a, b) ∷ [])) self.new }
+        ensures notes { (n : ℕ) (before : List (ℕ × ℕ)) → Notes n before self.old → Notes n (before ++ ((a, b) ∷ [])) self.new }
+        ensures units { self.new.classes.units ≡ self.old.classes.units }
     {
         let of_a = self.classes.of(a);
         let of_b = self.classes.of(b);
-        if of_a == of_b {
+        if of_a == of_b || self.classes.left() < 2 {
             return;
         }
         self.classes.join(of_a.min(of_b), of_a.max(of_b));

@@ -1,7 +1,7 @@
-use Rattle.std.proofs.Common.{ℕ, List}
+use Rattle.std.proofs.Common.{◌≡◌, ℕ, List}
 use Rattle.cuts.specs.declared.entry.Entry.{Entry}
 use Rattle.cuts.specs.Links.{Link}
-use Rattle.scans.specs.Waits.{Turn}
+use Rattle.scans.specs.Waits.{AllMarked, Turn}
 use Rattle.scans.proofs.Raising.{Raising}
 use Rattle.scans.proofs.scan.raise_all.Given as goal
 
@@ -9,6 +9,10 @@ abbrev pub invariant-loop-w : goal.invariant-loop-w
 invariant-loop-w g l =
     let q = g.Q.PriorityQueue in
     let m = g.W.Weight in
-    q.sound l.queue
-    × ((ls : List (Link m.Value)) (es : List Entry) (taken : List ℕ) → Turn m l.n ls es taken l.v l.table (q.key l.initial.queue) l.waiting
-    → Raising m l.n ls es taken l.v (m.value l.best) l.initial.found (q.key l.queue) l.found l.w)
+    record {
+      sound : q.sound l.queue;
+      units : l.found.classes.units ≡ l.n;
+      marked : AllMarked l.n (q.key l.queue) l.waiting;
+      raising : (ls : List (Link m.Value)) (es : List Entry) (taken : List ℕ) → Turn m l.n ls es taken l.v l.table (q.key l.initial.queue) l.waiting
+          → Raising m l.n ls es taken l.v (m.value l.best) l.initial.found (q.key l.queue) l.found l.w;
+    }
