@@ -5,7 +5,7 @@ use Rattle.std.proofs.lemmas.Bool.Decides.{nat_tests}
 use Rattle.weights.specs.Laws.{limit}
 use Rattle.weights.specs.declared.weight.Weight.{Ghosts}
 use Rattle.cuts.specs.Kinds.{Kind, Lawful, kind_of}
-use Rattle.cuts.specs.Links.{Link, sum, Ends, Sound}
+use Rattle.cuts.specs.Links.{Link, sum, Sound}
 use Rattle.cuts.specs.Divisions.{only, differ}
 use Rattle.cuts.specs.Groups.{degree, joint}
 use Rattle.cuts.proofs.Facts.{joint_sym}
@@ -13,12 +13,6 @@ use Rattle.cuts.proofs.Fills.{sum_more, next_fits}
 use Rattle.cuts.proofs.Names.{stands_from, stands_less}
 use Rattle.tables.specs.Meaning.{at, Holds}
 use Rattle.rows.proofs.Places.{at_same, at_other, rest_set}
-
--- the last link joins units of the plan
-pub ends_last : {V : Type 0} (n : ℕ) (ps : List (Link V)) (l : Link V) → Ends n (ps ++ (l ∷ [])) → (l.first < n) × (l.second < n)
-unfolding Ends
-ends_last n [] l e = (e.0, e.1)
-ends_last n (p ∷ ps) l e = ends_last n ps l e.2
 
 sum_out : {V : Type 0} (K : Kind V) (test : ℕ → ℕ → Bool) (ps : List (Link V)) (l : Link V) → l.in_service ≡ false → sum K test (ps ++ (l ∷ [])) ≡ sum K test ps
 unfolding sum
@@ -70,33 +64,25 @@ at_neither a b u p q = grind (arith, nat_tests)
 abbrev pub linked : {V : Type 0} → List (Link V) → ℕ → ℕ → V → List (Link V)
 linked ls a b w = ls ++ (record { first = a; second = b; in_service = true; weight = w } ∷ [])
 
--- a table of some links, to which one more can be added
-abbrev pub Fillable : {W : Type 0} (g : Ghosts W) → ℕ → ℕ → ℕ → W → List W → Type 0
-Fillable g n a b weight table = (ls : List (Link g.Value)) × Holds g n ls [] table × Sound (kind_of g) n (linked ls a b (g.value weight))
-
-module _ {W : Type 0} (g : Ghosts W) (table : List W) (n a b : ℕ) (weight : W) (held : Fillable g n a b weight table) where
-  pub ends_below : (a < n) × (b < n)
-  ends_below = ends_last n held.0 _ held.2.ends
-
+module _ {W : Type 0} (g : Ghosts W) (laws : Lawful (kind_of g)) (table : List W) (n a b : ℕ) (weight : W) (la : a < n) (lb : b < n) (ls : List (Link g.Value)) (holds : Holds g n ls [] table) (sound : Sound (kind_of g) n (linked ls a b (g.value weight))) where
   -- the weight can be added to an entry that is a sum over the links
-  module _ (laws : Lawful (kind_of g)) where
-    fits : (test : ℕ → ℕ → Bool) (v : g.Value) → v ≡ sum (kind_of g) test held.0 → g.size v + g.size (g.value weight) ≤ limit
-    fits test v is = subst (λ v. g.size v + g.size (g.value weight) ≤ limit) (sym is) (next_fits (kind_of g) laws test n held.0 [] _ held.2 refl)
+  fits : (test : ℕ → ℕ → Bool) (v : g.Value) → v ≡ sum (kind_of g) test ls → g.size v + g.size (g.value weight) ≤ limit
+  fits test v is = subst (λ v. g.size v + g.size (g.value weight) ≤ limit) (sym is) (next_fits (kind_of g) laws test n ls [] _ sound refl)
 
-    pub joint_fits : (a ≡ b → ⊥) → g.size (at g table n a b) + g.size (g.value weight) ≤ limit
-    joint_fits apart = fits _ _ (held.1.joints a b (stands_from n [] a ends_below.0 refl) (stands_from n [] b ends_below.1 refl) apart)
+  pub joint_fits : (a ≡ b → ⊥) → g.size (at g table n a b) + g.size (g.value weight) ≤ limit
+  joint_fits apart = fits _ _ (holds.joints a b (stands_from n [] a la refl) (stands_from n [] b lb refl) apart)
 
-    pub degree_fits : (u : ℕ) → u < n → g.size (at g table n u u) + g.size (g.value weight) ≤ limit
-    degree_fits u lu = fits _ _ (held.1.degrees u (stands_from n [] u lu refl))
+  pub degree_fits : (u : ℕ) → u < n → g.size (at g table n u u) + g.size (g.value weight) ≤ limit
+  degree_fits u lu = fits _ _ (holds.degrees u (stands_from n [] u lu refl))
 
 -- the table with the entry of a and b and both degrees written
 abbrev pub filled : {W : Type 0} → List W → ℕ → ℕ → ℕ → W → W → W → List W
 filled table n a b joint at_a at_b = set (set (set (set table (a * n + b) joint) (b * n + a) joint) (a * n + a) at_a) (b * n + b) at_b
 
-module _ {W : Type 0} (g : Ghosts W) (laws : Lawful (kind_of g)) (table : List W) (n a b : ℕ) (weight both at_a at_b : W) (apart : a ≡ b → ⊥) (la : a < n) (lb : b < n) (size : n * n ≤ length table) where
-  pub filled_rest : drop (n * n) (filled table n a b both at_a at_b) ≡ drop (n * n) table
-  filled_rest = rest_set g _ n b b at_b lb lb ∙ rest_set g _ n a a at_a la la ∙ rest_set g _ n b a both lb la ∙ rest_set g table n a b both la lb
+pub filled_rest : {W : Type 0} (g : Ghosts W) (table : List W) (n a b : ℕ) (both at_a at_b : W) → a < n → b < n → drop (n * n) (filled table n a b both at_a at_b) ≡ drop (n * n) table
+filled_rest g table n a b both at_a at_b la lb = rest_set g _ n b b at_b lb lb ∙ rest_set g _ n a a at_a la la ∙ rest_set g _ n b a both lb la ∙ rest_set g table n a b both la lb
 
+module _ {W : Type 0} (g : Ghosts W) (laws : Lawful (kind_of g)) (table : List W) (n a b : ℕ) (weight both at_a at_b : W) (apart : a ≡ b → ⊥) (la : a < n) (lb : b < n) (size : n * n ≤ length table) where
   -- entries that are not written, off and on the diagonal
   off : (u v : ℕ) → v < n → (u ≡ v → ⊥) → at g (filled table n a b both at_a at_b) n u v ≡ at g (set (set table (a * n + b) both) (b * n + a) both) n u v
   off u v lv ne = at_other g _ n b b at_b u v lv lb (λ e. ne (e.0 ∙ sym e.1)) ∙ at_other g _ n a a at_a u v lv la (λ e. ne (e.0 ∙ sym e.1))

@@ -15,10 +15,10 @@ use weights::weight::{Weight, add};
 // A link in service between two units: their joint weight and both degrees grow by its weight.
 pub fn add_link<W: Weight>(table: &mut [W], n: usize, a: usize, b: usize, weight: W)
     requires most { n ≤ 64 }
+    requires row { a < n }
+    requires column { b < n }
     requires size { n * n ≤ length table.old }
-    requires apart { a ≢ b }
-    requires held { (ls : List (Link W.Weight.Value)) × Holds W.Weight n ls [] table.old × Sound (kind_of W.Weight) n (ls ++ (record { first = a; second = b; in_service = true; weight = W.Weight.value weight } ∷ [])) }
-    ensures holds { (ls : List (Link W.Weight.Value)) → Holds W.Weight n ls [] table.old → Sound (kind_of W.Weight) n (ls ++ (record { first = a; second = b; in_service = true; weight = W.Weight.value weight } ∷ [])) → Holds W.Weight n (ls ++ (record { first = a; second = b; in_service = true; weight = W.Weight.value weight } ∷ [])) [] table.new }
+    ensures holds { (ls : List (Link W.Weight.Value)) → (a ≢ b) → Holds W.Weight n ls [] table.old → Sound (kind_of W.Weight) n (ls ++ (record { first = a; second = b; in_service = true; weight = W.Weight.value weight } ∷ [])) → Holds W.Weight n (ls ++ (record { first = a; second = b; in_service = true; weight = W.Weight.value weight } ∷ [])) [] table.new }
     ensures rest { drop (n * n) table.new ≡ drop (n * n) table.old }
 {
     let joint = grown(table, n, a, b, weight);
@@ -35,8 +35,7 @@ fn grown<W: Weight>(table: &[W], n: usize, row: usize, column: usize, weight: W)
     requires row { row < n }
     requires column { column < n }
     requires size { n * n ≤ length table.now }
-    requires fits { W.Weight.size (at W.Weight table.now n row column) + W.Weight.size (W.Weight.value weight) ≤ limit }
-    ensures { W.Weight.value result ≡ W.Weight.plus (at W.Weight table.now n row column) (W.Weight.value weight) }
+    ensures { W.Weight.size (at W.Weight table.now n row column) + W.Weight.size (W.Weight.value weight) ≤ limit → W.Weight.value result ≡ W.Weight.plus (at W.Weight table.now n row column) (W.Weight.value weight) }
 {
     add(entry(table, n, row, column), weight)
 }
@@ -71,21 +70,16 @@ fn is_lighter<W: Weight>(table: &[W], n: usize, a: usize, b: usize) -> bool
 
 // Adds the row of `high` to that of `low`; the degree of `low` becomes that of both.
 pub fn merge_rows<W: Weight>(table: &mut [W], groups: &Groups, n: usize, low: usize, high: usize)
+    requires units { groups.now.units ≡ n }
     requires size { n * n ≤ length table.old }
-    requires explained { (ls : List (Link W.Weight.Value)) × (es : List Entry) × Explains W.Weight n ls es table.old groups.now × (stands n es low ≡ true) × (stands n es high ≡ true) }
-    requires less { low < high }
-    ensures holds { (ls : List (Link W.Weight.Value)) (es : List Entry) (e : Entry) → Explains W.Weight n ls es table.old groups.now → stands n es low ≡ true → stands n es high ≡ true → e.low ≡ low → e.high ≡ high → Holds W.Weight n ls (es ++ (e ∷ [])) table.new }
+    requires low { low < n }
+    requires high { high < n }
+    ensures holds { (ls : List (Link W.Weight.Value)) (es : List Entry) (e : Entry) → Explains W.Weight n ls es table.old groups.now → stands n es low ≡ true → stands n es high ≡ true → low < high → e.low ≡ low → e.high ≡ high → Holds W.Weight n ls (es ++ (e ∷ [])) table.new }
     ensures rest { drop (n * n) table.new ≡ drop (n * n) table.old }
 {
     let mut degree = W::nothing();
     for w in 0..n {
-        if !groups.stands(w) {
-            continue;
-        }
-        if w == low {
-            continue;
-        }
-        if w == high {
+        if !groups.is_third(low, high, w) {
             continue;
         }
         let both = merge_entry(table, n, low, high, w);
@@ -101,8 +95,7 @@ fn merge_entry<W: Weight>(table: &mut [W], n: usize, low: usize, high: usize, w:
     requires high { high < n }
     requires third { w < n }
     requires size { n * n ≤ length table.old }
-    requires fits { W.Weight.size (at W.Weight table.old n low w) + W.Weight.size (at W.Weight table.old n high w) ≤ limit }
-    ensures value { W.Weight.value result ≡ W.Weight.plus (at W.Weight table.old n low w) (at W.Weight table.old n high w) }
+    ensures value { W.Weight.size (at W.Weight table.old n low w) + W.Weight.size (at W.Weight table.old n high w) ≤ limit → W.Weight.value result ≡ W.Weight.plus (at W.Weight table.old n low w) (at W.Weight table.old n high w) }
     ensures written { table.new ≡ slice_set (slice_set table.old (low * n + w) result) (w * n + low) result }
 {
     let both = add(entry(table, n, low, w), entry(table, n, high, w));

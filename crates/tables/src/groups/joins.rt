@@ -1,5 +1,5 @@
 // Groups at the start, and what a merger makes of them.
-ghost use Rattle.std.specs.Prelude.{◌≡◌, ℕ, ◌+◌, ◌<◌, ◌≤◌, true, false, List, [], ◌∷◌, ◌++◌, length, if◌then◌else◌, nat_eq, slice_index, slice_index_or};
+ghost use Rattle.std.specs.Prelude.{◌≡◌, ℕ, ◌+◌, ◌<◌, ◌≤◌, true, false, not, ◌&&◌, ◌||◌, ◌==◌, List, [], ◌∷◌, ◌++◌, length, if◌then◌else◌, nat_eq, slice_index, slice_index_or};
 ghost use Rattle.cuts.specs.declared.entry.Entry.{Entry};
 ghost use Rattle.cuts.specs.Groups.{Joins, stands};
 ghost use Rattle.tables.specs.Meaning.{Tracks};
@@ -37,6 +37,14 @@ impl Groups {
         ensures { result ≡ slice_index_or self.now.standing group false }
     {
         self.standing[group]
+    }
+
+    // Whether a group stands and is neither of a pair.
+    pub fn is_third(&self, u: usize, v: usize, w: usize) -> bool
+        requires { w < self.now.units }
+        ensures { result ≡ (slice_index_or self.now.standing w false && not (w == u || w == v)) }
+    {
+        self.stands(w) && w != u && w != v
     }
 
     // The group of a unit.
