@@ -1,5 +1,5 @@
 -- The turns of the loop that adds one row to another.
-use Rattle.std.proofs.Common.{◌≡◌, ℕ, ◌+◌, ◌*◌, ◌<◌, ◌≤◌, true, false, not, ◌&&◌, ◌||◌, eqb, List, [], ◌∷◌, ◌++◌, length, get_or, drop, set, sym, refl, ◌∙◌, subst₂, arith}
+use Rattle.std.proofs.Common.{◌≡◌, ℕ, ◌+◌, ◌*◌, ◌<◌, ◌≤◌, true, false, not, ◌&&◌, ◌||◌, eqb, List, [], ◌∷◌, ◌++◌, length, get_or, drop, set, sym, ◌∙◌, subst₂, arith}
 use Rattle.std.proofs.lemmas.Bool.{and_parts}
 use Rattle.std.proofs.lemmas.Bool.Decides.{nat_tests}
 use Rattle.weights.specs.Laws.{limit}
@@ -11,31 +11,19 @@ use Rattle.cuts.specs.Links.{Link}
 use Rattle.cuts.specs.Groups.{stands}
 use Rattle.tables.specs.declared.groups.Groups.{Groups}
 use Rattle.tables.specs.Meaning.{at, Holds, Explains}
-use Rattle.rows.proofs.Mergers.{Kept, Midway, Third, written, written_rest, kept_none, kept_skip, kept_more, mid_none, mid_skip, both_fit, sum_fits, mid_more, mid_all}
-use Rattle.rows.proofs.Places.{rest_set}
+use Rattle.rows.proofs.Mergers.{Kept, Midway, Third, written, written_rest, kept_skip, kept_more, mid_skip, both_fit, sum_fits, mid_more, mid_all}
 
 abbrev pub merger : ℕ → ℕ → Ground → ℕ → Entry
 merger low high ground scan = record { low = low; high = high; ground = ground; scan = scan }
 
 module _ {W : Type 0} (g : Ghosts W) (n low high : ℕ) (old : List W) (groups : Groups) where
-  -- of a table of which the two groups can be merged, the row of the lower one is that of both as far as w, and sum is what was added up
-  abbrev pub Mid : List W → ℕ → W → Type 0
-  Mid table w sum = (ls : List (Link g.Value)) (es : List Entry) (ground : Ground) (scan : ℕ) → Explains g n ls es old groups → stands n es low ≡ true → stands n es high ≡ true → low < high → Midway g n ls es (merger low high ground scan) table w sum
-
   -- what holds when the groups below w have been added, and sum is what was added up
   pub record Merging (table : List W) (w : ℕ) (sum : W) : Type 0 where
     pub rest : drop (n * n) table ≡ drop (n * n) old
     pub kept : Kept g n low old table w
-    pub mid : Mid table w sum
+    pub mid : (ls : List (Link g.Value)) (es : List Entry) (ground : Ground) (scan : ℕ) → Explains g n ls es old groups → stands n es low ≡ true → stands n es high ≡ true → low < high → Midway g n ls es (merger low high ground scan) table w sum
 
   module _ (laws : Lawful (kind_of g)) where
-    pub merging_none : (sum : W) → g.value sum ≡ g.zero → Merging old 0 sum
-    merging_none sum is = record {
-      rest = refl;
-      kept = kept_none g n low old;
-      mid = λ ls es ground scan ex sl sh less. mid_none g n ls es (merger low high ground scan) laws ex.sound ex.joins sl sh less old sum is;
-    }
-
     pub merging_skip : (table : List W) (w : ℕ) (sum : W) → w < n → (get_or groups.standing w false && not (eqb w low || eqb w high)) ≡ false → Merging table w sum → Merging table (w + 1) sum
     merging_skip table w sum lt passed m = record {
       rest = m.rest;
@@ -70,6 +58,3 @@ module _ {W : Type 0} (g : Ghosts W) (n low high : ℕ) (old : List W) (groups :
     merging_all table sum size m ls es e ex sl sh less el eh =
         subst₂ (λ l h. Holds g n ls (es ++ (merger l h e.ground e.scan ∷ [])) (set table (low * n + low) sum)) (sym el) (sym eh)
         (mid_all g n ls es (merger low high e.ground e.scan) laws ex.sound ex.joins sl sh less old table sum ex.holds m.kept (m.mid ls es e.ground e.scan ex sl sh less) size)
-
-    pub merging_rest : (table : List W) (sum : W) → low < n → Merging table n sum → drop (n * n) (set table (low * n + low) sum) ≡ drop (n * n) old
-    merging_rest table sum lu m = rest_set g table n low low sum lu lu ∙ m.rest

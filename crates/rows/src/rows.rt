@@ -1,4 +1,5 @@
 // What changes whole rows of the weight table, or looks at them: a link, the lightest unit, and a merger.
+// Loops count through the numbers of units and groups, as rows and columns of the table go by these numbers.
 ghost use Rattle.std.specs.Prelude.{◌≡◌, ℕ, ◌+◌, ◌*◌, ◌<◌, ◌≤◌, true, not, List, [], ◌∷◌, ◌++◌, length, drop, ◌≢◌, slice_set};
 ghost use Rattle.weights.specs.Laws.{limit};
 ghost use Rattle.cuts.specs.declared.entry.Entry.{Entry};

@@ -1,4 +1,4 @@
-use Rattle.std.proofs.Common.{◌≡◌, ℕ, ◌+◌, ◌<◌, List, [], sym, ◌∙◌, subst, arith}
+use Rattle.std.proofs.Common.{ℕ, ◌+◌, ◌<◌, List, [], sym, ◌∙◌, subst}
 use Rattle.std.proofs.lemmas.Bool.{not-true, not-false}
 use Rattle.cuts.specs.Kinds.{kind_of}
 use Rattle.cuts.specs.Links.{Link}
@@ -26,8 +26,3 @@ loop-u-preserved g c =
       | then-is_lighter w ↦ subst P (sym w.unit-is) (c.loop-u-test.true, λ ls h. lightest_next K met.laws n ls (fits ls h) c.loop-u.u c.loop-u.unit c.loop-u-test.true (c.loop-u.invariant.1 ls h) (compared ls h ∙ not-true _ (sym c.is_lighter.ensures ∙ w.if-is_lighter.true)))
       | else-is_lighter w ↦ subst P (sym w.unit-is) (c.loop-u.invariant.0, λ ls h. lightest_same K met.laws n ls (fits ls h) c.loop-u.u c.loop-u.unit c.loop-u-test.true (c.loop-u.invariant.1 ls h) (compared ls h ∙ not-false _ (sym c.is_lighter.ensures ∙ w.if-is_lighter.false)))
     ]
-
-pub returns : goal.returns
-returns g c =
-    let all : c.loop-u.u ≡ c.args.n = omega (arith, c.loop-u.auto.u-end c.requires.some) in
-    record { unit = c.loop-u.invariant.0; lightest = λ ls h. subst (λ k. Lightest (kind_of g.W.Weight) k ls c.loop-u.unit) all (c.loop-u.invariant.1 ls h) }
