@@ -5,7 +5,7 @@ ghost use Rattle.codes.specs.Code.{is_code};
 pub mod making;
 pub mod reading;
 
-// Its characters, and zeros behind them.
+// Its characters, and zeros behind them. Bytes with a length beside, since no code is on the heap.
 #[derive(Clone, Copy)]
 pub struct FaultCode {
     bytes: [u8; 7],

@@ -18,12 +18,9 @@ pub fn fits(position: usize, character: char) -> bool
 fn all_fit(text: &[u8]) -> bool
     ensures { result ≡ fits_from 0 text.now }
 {
-    for i in 0..text.len() {
-        if !fits(i, text[i] as char) {
-            return false;
-        }
-    }
-    true
+    text.iter()
+        .enumerate()
+        .all(|(position, character)| fits(position, *character as char))
 }
 
 // Whether the characters are a code.

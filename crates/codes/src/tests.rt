@@ -3,10 +3,7 @@ use crate::code::FaultCode;
 use std::test::Fail;
 
 fn refused(text: &[u8]) -> bool {
-    match FaultCode::parse(text) {
-        Ok(_) => false,
-        Err(why) => why.number() == 7,
-    }
+    FaultCode::parse(text).is_err_and(|why| why.number() == 7)
 }
 
 #[test]

@@ -1,4 +1,5 @@
 pub mod Numbers
+pub mod Shown
 pub mod Kinds
 pub mod Links
 pub mod Divisions

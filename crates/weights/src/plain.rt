@@ -8,7 +8,8 @@ ghost use Rattle.std.proofs.Common.{rules, arith};
 use crate::weight::{LIMIT, Weight, part_at};
 use refusals::Refusal;
 
-#[derive(Clone, Copy)]
+// Ordered by the conductors.
+#[derive(Clone, Copy, PartialEq, Eq, PartialOrd, Ord)]
 pub struct Plain {
     conductors: u32,
     ghost kept: { conductors ≤ limit },
@@ -70,7 +71,7 @@ impl Weight for Plain {
     }
 
     fn at_most(self, other: Plain) -> bool {
-        self.conductors <= other.conductors
+        self <= other
     }
 
     fn amount(self) -> u32 {

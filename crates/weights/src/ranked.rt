@@ -8,7 +8,8 @@ ghost use Rattle.std.proofs.Common.{rules, arith};
 use crate::weight::{LIMIT, Weight, part_at};
 use refusals::Refusal;
 
-#[derive(Clone, Copy)]
+// Ordered by the safety conductors, then by the others.
+#[derive(Clone, Copy, PartialEq, Eq, PartialOrd, Ord)]
 pub struct Ranked {
     safety: u32,
     other: u32,
@@ -78,7 +79,7 @@ impl Weight for Ranked {
     }
 
     fn at_most(self, other: Ranked) -> bool {
-        self.safety < other.safety || (self.safety == other.safety && self.other <= other.other)
+        self <= other
     }
 
     fn amount(self) -> u32 {

@@ -83,7 +83,7 @@ pub trait Weight: Copy {
 pub fn part_at(parts: &[u32], i: usize) -> u32
     ensures { result ≡ slice_index parts.now i }
 {
-    if i < parts.len() { parts[i] } else { 0 }
+    parts.get(i).copied().unwrap_or(0)
 }
 
 // Both together, where the amounts keep the limit; where they do not, the first alone.

@@ -35,7 +35,8 @@ impl FaultCode {
     }
 }
 
-// Two codes are the same where length and every character agree.
+// Two codes are the same where length and every character agree. A derive would speak of the fields, which
+// contracts of other crates do not see, and not of the characters.
 impl PartialEq for FaultCode {
     ghost eq = { on bytes_of (pointwise ◌==◌) };
 
@@ -66,6 +67,7 @@ impl fmt::Display for FaultCode {
     }
 }
 
+// Writes the characters too; a derive would write the numbers of the bytes.
 impl fmt::Debug for FaultCode {
     fn fmt<W: fmt::Write>(&self, f: &mut fmt::Formatter<W>) -> fmt::Result {
         write!(f, "{self}")
