@@ -1,6 +1,9 @@
 -- The tests of a pair, one by one, and the lowest ground.
-use Rattle.std.proofs.Common.{◌≡◌, ℕ, ◌<◌, Bool, true, false, ◌||◌, List, Some, None, Decides, ap, ◌∙◌, ap₂, arith}
+use Rattle.std.proofs.Common.{◌≡◌, ℕ, ◌<◌, Bool, true, false, ◌||◌, List, length, get_or, Some, None, Decides, MatchBool, refl, sym, subst, ap, ◌∙◌, ap₂, arith}
+use Rattle.std.specs.List.{HoldsAt, AllWithin, range_with_len}
+use Rattle.std.proofs.lemmas.Bool.{false≢true}
 use Rattle.std.proofs.lemmas.Bool.Decides.{Decides-at, Decides-or, not_from_Decides}
+use Rattle.std.proofs.lemmas.List.FromFn.{length-range_with_len, get_or-range_with_len}
 use Rattle.weights.specs.declared.weight.Weight.{Ghosts}
 use Rattle.cuts.specs.declared.entry.Entry.{Entry}
 use Rattle.cuts.specs.declared.ground.Ground.{Ground}
@@ -9,10 +12,11 @@ use Rattle.cuts.specs.Kinds.{Kind, kind_of}
 use Rattle.cuts.specs.Links.{Link}
 use Rattle.cuts.specs.Numbers.{ground_number}
 use Rattle.cuts.specs.Tests.{gathered, Meets}
+use Rattle.cuts.proofs.Names.{stands_less}
 use Rattle.tables.specs.declared.groups.Groups.{Groups}
 use Rattle.tables.specs.Meaning.{at, Explains}
-use Rattle.passes.specs.Passed.{Standing, Judged}
-use Rattle.passes.proofs.Readings.{joint_at, degree_low, degree_high}
+use Rattle.passes.specs.Passed.{Standing, Apex, Judged}
+use Rattle.passes.proofs.Readings.{third_apart, joint_at, degree_low, degree_high}
 
 each : (P : Ground → Type 0) → P Heavy → P Unbalanced → P Triangle → P Neighbourhood → P Scan → (ground : Ground) → P ground
 each P a b c d e Heavy = a
@@ -52,6 +56,32 @@ module _ {V : Type 0} (K : Kind V) (n : ℕ) (ls : List (Link V)) (es : List Ent
 
 itself : (b : Bool) → Decides b (b ≡ true)
 itself b = (λ e. e, λ e. e)
+
+-- whether some number has P, where each that has it is below n
+some_below : (P : ℕ → Type 0) (n : ℕ) → ((w : ℕ) → P w → w < n) → (r : Bool)
+    → MatchBool r ((k : ℕ) × (k < length (range_with_len 0 n)) × HoldsAt P (range_with_len 0 n) k) (AllWithin (λ w. P w → ⊥) (range_with_len 0 n) 0 (length (range_with_len 0 n)))
+    → Decides r ((w : ℕ) × P w)
+some_below P n below true some = (λ e. (_, some.2 0), λ m. refl)
+some_below P n below false none = (
+  λ e. absurd (false≢true e),
+  λ m.
+      let lt = below m.0 m.1 in
+      let last : m.0 < length (range_with_len 0 n) = omega (arith, length-range_with_len 0 n) in
+      let here : get_or (range_with_len 0 n) m.0 0 ≡ m.0 = omega (arith, get_or-range_with_len 0 n m.0 0 lt) in
+      absurd (none m.0 0 (omega arith) last (subst P (sym here) m.1)),
+)
+
+-- the apexes that a search of the groups looks for
+module _ {V : Type 0} (K : Kind V) (n : ℕ) (ls : List (Link V)) (es : List Entry) (best : V) (u v : ℕ) (r : Bool) where
+  pub triangle_decided :
+        MatchBool r
+        ((k : ℕ) × (k < length (range_with_len 0 n)) × HoldsAt (Apex K n ls es u v) (range_with_len 0 n) k)
+        (AllWithin (λ w. Apex K n ls es u v w → ⊥) (range_with_len 0 n) 0 (length (range_with_len 0 n)))
+      → Decides r (Meets K n ls es best u v Triangle)
+  triangle_decided h =
+      let below : (w : ℕ) → Apex K n ls es u v w → w < n = λ w is. stands_less n es w (third_apart n es u v w is.0).0 in
+      let (there, back) = some_below (Apex K n ls es u v) n below r h in
+      (λ e. let (w, m) = there e in (w, m.0, m.1, m.2), λ m. back (m.0, (m.1, m.2, m.3)))
 
 pub neighbourhood_decided : {V : Type 0} (K : Kind V) (n : ℕ) (ls : List (Link V)) (es : List Entry) (best : V) (u v k : ℕ) (s : V) (r : Bool) → s ≡ gathered K n ls es u v k → k ≡ n → r ≡ K.at_most best s → Decides r (Meets K n ls es best u v Neighbourhood)
 neighbourhood_decided K n ls es best u v k s r sum all t = Decides-at r _ (t ∙ ap (K.at_most best) (sum ∙ ap (gathered K n ls es u v) all)) (itself _)

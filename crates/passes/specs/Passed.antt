@@ -2,9 +2,10 @@
 use Rattle.std.specs.Prelude.{◌≡◌, ℕ, ◌<◌, true, false, List, Some, None, Option, slice_index_or}
 use Rattle.cuts.specs.declared.entry.Entry.{Entry}
 use Rattle.cuts.specs.declared.ground.Ground.{Ground}
-use Rattle.cuts.specs.Kinds.{Kind}
+use Rattle.cuts.specs.Kinds.{Kind, AtMost}
 use Rattle.cuts.specs.Links.{Link}
-use Rattle.cuts.specs.Tests.{First, Meets, None as NoPair}
+use Rattle.cuts.specs.Groups.{degree, joint}
+use Rattle.cuts.specs.Tests.{third, twice, First, Meets, None as NoPair}
 use Rattle.cuts.specs.Numbers.{ground_number}
 use Rattle.tables.specs.declared.groups.Groups.{Groups}
 
@@ -14,6 +15,13 @@ pub record Standing (groups : Groups) (n u v : ℕ) : Type 0 where
   pub high : slice_index_or groups.standing v false ≡ true
   pub order : u < v
   pub within : v < n
+
+-- the third group w makes a triangle of the pair u, v: each degree is at most twice what joins it to the other two
+abbrev pub Apex : {V : Type 0} → Kind V → ℕ → List (Link V) → List Entry → ℕ → ℕ → ℕ → Type 0
+Apex K n ls es u v w =
+    (third n es u v w ≡ true)
+    × AtMost K (degree K ls es u) (twice K n ls es (K.plus (joint K ls es u v) (joint K ls es u w)))
+    × AtMost K (degree K ls es v) (twice K n ls es (K.plus (joint K ls es u v) (joint K ls es v w)))
 
 module _ {V : Type 0} (K : Kind V) (n : ℕ) (ls : List (Link V)) (es : List Entry) (best : V) where
   -- the lowest ground whose test the pair meets, or none where it meets no test

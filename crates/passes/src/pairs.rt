@@ -1,13 +1,13 @@
 // The tests of a pair of groups, and the pass over all pairs.
-ghost use Rattle.std.specs.Prelude.{◌≡◌, ◌+◌, ◌*◌, ◌<◌, ◌≤◌, false, not, ◌&&◌, ◌||◌, List, length, Decides, ◌==◌, slice_index_or};
+ghost use Rattle.std.specs.Prelude.{◌≡◌, ◌+◌, ◌*◌, ◌<◌, ◌≤◌, false, not, ◌&&◌, ◌||◌, List, length, Decides, ◌==◌, IfSome, slice_index_or};
 ghost use Rattle.weights.specs.Laws.{limit};
 ghost use Rattle.cuts.specs.declared.entry.Entry.{Entry};
 ghost use Rattle.cuts.specs.declared.ground.Ground.TheVariants.{Triangle, Neighbourhood};
 ghost use Rattle.cuts.specs.Kinds.{kind_of, lesser as lighter};
 ghost use Rattle.cuts.specs.Links.{Link};
 ghost use Rattle.cuts.specs.Tests.{Meets};
-ghost use Rattle.passes.specs.Passed.{Standing, Judged, Passed};
-ghost use Rattle.tables.specs.Meaning.{Explained, Explains};
+ghost use Rattle.passes.specs.Passed.{Standing, Apex, Judged, Passed};
+ghost use Rattle.tables.specs.Meaning.{Explains};
 
 use cuts::ground::Ground;
 use tables::groups::Groups;
@@ -23,16 +23,14 @@ fn lesser<W: Weight>(a: W, b: W) -> W
 
 // Whether a degree is at most twice a weight.
 fn within_twice<W: Weight>(degree: W, weight: W) -> bool
-    requires { W.Weight.size (W.Weight.value weight) + W.Weight.size (W.Weight.value weight) ≤ limit }
-    ensures { result ≡ W.Weight.le (W.Weight.value degree) (W.Weight.plus (W.Weight.value weight) (W.Weight.value weight)) }
+    ensures { W.Weight.size (W.Weight.value weight) + W.Weight.size (W.Weight.value weight) ≤ limit → result ≡ W.Weight.le (W.Weight.value degree) (W.Weight.plus (W.Weight.value weight) (W.Weight.value weight)) }
 {
     degree.at_most(add(weight, weight))
 }
 
 // Unbalanced: the degree of one of two groups is at most twice their joint weight.
-fn is_unbalanced<W: Weight>(joint: W, a: W, b: W) -> bool
-    requires { W.Weight.size (W.Weight.value joint) + W.Weight.size (W.Weight.value joint) ≤ limit }
-    ensures { result ≡ (W.Weight.le (W.Weight.value a) (W.Weight.plus (W.Weight.value joint) (W.Weight.value joint)) || W.Weight.le (W.Weight.value b) (W.Weight.plus (W.Weight.value joint) (W.Weight.value joint))) }
+pub fn is_unbalanced<W: Weight>(joint: W, a: W, b: W) -> bool
+    ensures { W.Weight.size (W.Weight.value joint) + W.Weight.size (W.Weight.value joint) ≤ limit → result ≡ (W.Weight.le (W.Weight.value a) (W.Weight.plus (W.Weight.value joint) (W.Weight.value joint)) || W.Weight.le (W.Weight.value b) (W.Weight.plus (W.Weight.value joint) (W.Weight.value joint))) }
 {
     within_twice(a, joint) || within_twice(b, joint)
 }
@@ -45,30 +43,48 @@ fn is_third(groups: &Groups, u: usize, v: usize, w: usize) -> bool
     groups.stands(w) && w != u && w != v
 }
 
-// Triangle: with some third group, each degree is at most twice what joins it to the other two.
-fn is_triangle<W: Weight>(table: &[W], groups: &Groups, n: usize, u: usize, v: usize) -> bool
+// Whether a group makes a triangle of a pair: it is a third one, and each degree is at most twice
+// what joins it to the other two.
+fn is_apex<W: Weight>(
+    table: &[W],
+    groups: &Groups,
+    n: usize,
+    u: usize,
+    v: usize,
+    apex: usize,
+) -> bool
+    requires units { groups.now.units ≡ n }
     requires size { n * n ≤ length table.now }
-    requires explained { Explained W.Weight n table.now groups.now }
-    requires pair { Standing groups.now n u v }
-    ensures { (ls : List (Link W.Weight.Value)) (es : List Entry) → Explains W.Weight n ls es table.now groups.now → (best : W.Weight.Value) → Decides result (Meets (kind_of W.Weight) n ls es best u v Triangle) }
+    requires u { u < n }
+    requires v { v < n }
+    requires apex { apex < n }
+    ensures { (ls : List (Link W.Weight.Value)) (es : List Entry) → Explains W.Weight n ls es table.now groups.now → Standing groups.now n u v → Decides result (Apex (kind_of W.Weight) n ls es u v apex) }
 {
     let joint = entry(table, n, u, v);
-    for apex in 0..n {
-        if !is_third(groups, u, v, apex) {
-            continue;
-        }
-        if !within_twice(entry(table, n, u, u), add(joint, entry(table, n, u, apex))) {
-            continue;
-        }
-        if within_twice(entry(table, n, v, v), add(joint, entry(table, n, v, apex))) {
-            return true;
-        }
-    }
-    false
+    is_third(groups, u, v, apex)
+        && within_twice(entry(table, n, u, u), add(joint, entry(table, n, u, apex)))
+        && within_twice(entry(table, n, v, v), add(joint, entry(table, n, v, apex)))
+}
+
+// Triangle: some third group makes one of the pair.
+pub fn is_triangle<W: Weight>(
+    table: &[W],
+    groups: &Groups,
+    n: usize,
+    u: usize,
+    v: usize,
+) -> bool
+    requires units { groups.now.units ≡ n }
+    requires size { n * n ≤ length table.now }
+    requires u { u < n }
+    requires v { v < n }
+    ensures { (ls : List (Link W.Weight.Value)) (es : List Entry) → Explains W.Weight n ls es table.now groups.now → Standing groups.now n u v → (best : W.Weight.Value) → Decides result (Meets (kind_of W.Weight) n ls es best u v Triangle) }
+{
+    (0..n).any(|apex| is_apex(table, groups, n, u, v, apex))
 }
 
 // Neighbourhood: the joint weight, and for each third group the lesser of what joins it to the two, come to best.
-fn is_neighbourhood<W: Weight>(
+pub fn is_neighbourhood<W: Weight>(
     table: &[W],
     groups: &Groups,
     n: usize,
@@ -76,23 +92,23 @@ fn is_neighbourhood<W: Weight>(
     u: usize,
     v: usize,
 ) -> bool
+    requires units { groups.now.units ≡ n }
     requires size { n * n ≤ length table.now }
-    requires explained { Explained W.Weight n table.now groups.now }
-    requires pair { Standing groups.now n u v }
-    ensures { (ls : List (Link W.Weight.Value)) (es : List Entry) → Explains W.Weight n ls es table.now groups.now → Decides result (Meets (kind_of W.Weight) n ls es (W.Weight.value best) u v Neighbourhood) }
+    requires u { u < n }
+    requires v { v < n }
+    ensures { (ls : List (Link W.Weight.Value)) (es : List Entry) → Explains W.Weight n ls es table.now groups.now → Standing groups.now n u v → Decides result (Meets (kind_of W.Weight) n ls es (W.Weight.value best) u v Neighbourhood) }
 {
     let mut sum = entry(table, n, u, v);
     for w in 0..n {
-        if !is_third(groups, u, v, w) {
-            continue;
+        if is_third(groups, u, v, w) {
+            sum = add(sum, lesser(entry(table, n, u, w), entry(table, n, v, w)));
         }
-        sum = add(sum, lesser(entry(table, n, u, w), entry(table, n, v, w)));
     }
     best.at_most(sum)
 }
 
 // The lowest ground on which the pair may be merged, if any.
-fn ground_of<W: Weight>(
+pub fn ground_of<W: Weight>(
     table: &[W],
     groups: &Groups,
     n: usize,
@@ -100,10 +116,11 @@ fn ground_of<W: Weight>(
     u: usize,
     v: usize,
 ) -> Option<Ground>
+    requires units { groups.now.units ≡ n }
     requires size { n * n ≤ length table.now }
-    requires explained { Explained W.Weight n table.now groups.now }
-    requires pair { Standing groups.now n u v }
-    ensures { (ls : List (Link W.Weight.Value)) (es : List Entry) → Explains W.Weight n ls es table.now groups.now → Judged (kind_of W.Weight) n ls es (W.Weight.value best) u v result }
+    requires u { u < n }
+    requires v { v < n }
+    ensures { (ls : List (Link W.Weight.Value)) (es : List Entry) → Explains W.Weight n ls es table.now groups.now → Standing groups.now n u v → Judged (kind_of W.Weight) n ls es (W.Weight.value best) u v result }
 {
     let joint = entry(table, n, u, v);
     if best.at_most(joint) {
@@ -128,9 +145,10 @@ pub fn first_pair<W: Weight>(
     n: usize,
     best: W,
 ) -> Option<(usize, usize, Ground)>
+    requires units { groups.now.units ≡ n }
     requires size { n * n ≤ length table.now }
-    requires explained { Explained W.Weight n table.now groups.now }
-    ensures { (ls : List (Link W.Weight.Value)) (es : List Entry) → Explains W.Weight n ls es table.now groups.now → Passed (kind_of W.Weight) n ls es (W.Weight.value best) result }
+    ensures order { IfSome result (λ p. (p.0 < p.1) × (p.1 < n)) }
+    ensures passed { (ls : List (Link W.Weight.Value)) (es : List Entry) → Explains W.Weight n ls es table.now groups.now → Passed (kind_of W.Weight) n ls es (W.Weight.value best) result }
 {
     'pass: {
         for u in 0..n {

@@ -19,23 +19,25 @@ pub loop-v-preserved-then-at_most : goal.loop-v-preserved-then-at_most
 loop-v-preserved-then-at_most g c = λ ls es ex.
     let two = standing c.args.groups.now c.args.n c.loop-u.u c.loop-v.v c.if-not-stands.ensures c.if-not-stands-2.ensures (omega arith) c.loop-v-test.true in
     below_more _ _ (c.loop-v.invariant ls es ex)
-    (λ pair. absurd (both_ways _ (above_at ex two _ _ true c.entry.ensures c.nothing.ensures c.if-at_most.ensures) pair.3))
+    (λ pair. absurd (both_ways _ (above_at ex two _ _ true c.entry.ensures.value c.nothing.ensures c.if-at_most.ensures) pair.3))
 
 pub loop-v-preserved : goal.loop-v-preserved
-loop-v-preserved g c = λ ls es ex. below_more _ _ (c.loop-v.invariant ls es ex) (λ pair. c.in_default.ensures ls es ex)
+loop-v-preserved g c = λ ls es ex.
+    let two = standing c.args.groups.now c.args.n c.loop-u.u c.loop-v.v c.if-not-stands.ensures c.if-not-stands-2.ensures (omega arith) c.loop-v-test.true in
+    below_more _ _ (c.loop-v.invariant ls es ex) (λ pair. c.in_default.ensures ls es ex two)
 
 pub loop-u-preserved : goal.loop-u-preserved
 loop-u-preserved g c = λ ls es ex.
     below_more _ _ (c.loop-u.invariant ls es ex)
     (λ b pair. let lt = stands_less c.args.n es b pair.1 in c.loop-v.invariant ls es ex b (omega arith) pair)
 
-pub returns-in-Some : goal.returns-in-Some
-returns-in-Some g c = λ ls es ex.
+pub returns-in-Some-clause-passed : goal.returns-in-Some-clause-passed
+returns-in-Some-clause-passed g c = λ ls es ex.
     let m = g.W.Weight in
     let two = standing c.args.groups.now c.args.n c.loop-u.u c.loop-v.v c.if-not-stands.ensures c.if-not-stands-2.ensures (omega arith) c.loop-v-test.true in
-    let judged = c.in-Some.ensures ls es ex in
+    let judged = c.in-Some.ensures ls es ex two in
     record {
-      pair = (low ex two, high ex two, two.order, above_at ex two _ _ false c.entry.ensures c.nothing.ensures c.if-at_most.ensures);
+      pair = (low ex two, high ex two, two.order, above_at ex two _ _ false c.entry.ensures.value c.nothing.ensures c.if-at_most.ensures);
       meets = judged.0;
       lowest = judged.1;
       earlier = λ a b pair. ⊎_elim
@@ -43,7 +45,7 @@ returns-in-Some g c = λ ls es ex.
           (λ (same : (a ≡ c.loop-u.u) × (b < c.loop-v.v)). subst (λ z. PassedOver (kind_of m) c.args.n ls es (m.value c.args.best) z b) (sym same.0) (c.loop-v.invariant ls es ex b same.1) pair);
     }
 
-pub returns-after-loop-u : goal.returns-after-loop-u
-returns-after-loop-u g c = λ ls es ex a b pair.
+pub returns-after-loop-u-clause-passed : goal.returns-after-loop-u-clause-passed
+returns-after-loop-u-clause-passed g c = λ ls es ex a b pair.
     let lt = stands_less c.args.n es a pair.0 in
     c.loop-u.invariant ls es ex a (omega arith) b pair

@@ -4,10 +4,11 @@ use Rattle.cuts.specs.Kinds.{kind_of}
 use Rattle.cuts.specs.Links.{Link}
 use Rattle.cuts.specs.Tests.{gathered}
 use Rattle.tables.specs.Meaning.{Explains}
+use Rattle.passes.specs.Passed.{Standing}
 use Rattle.passes.proofs.pairs.is_neighbourhood.Given as goal
 
 -- the sum so far is that of the third groups so far
 abbrev pub invariant-loop-w : goal.invariant-loop-w
 invariant-loop-w g l =
     let m = g.W.Weight in
-    (ls : List (Link m.Value)) (es : List Entry) → Explains m l.n ls es l.table l.groups → m.value l.sum ≡ gathered (kind_of m) l.n ls es l.u l.v l.w
+    (ls : List (Link m.Value)) (es : List Entry) → Explains m l.n ls es l.table l.groups → Standing l.groups l.n l.u l.v → m.value l.sum ≡ gathered (kind_of m) l.n ls es l.u l.v l.w
