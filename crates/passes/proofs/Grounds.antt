@@ -74,9 +74,9 @@ some_below P n below false none = (
 -- the apexes that a search of the groups looks for
 module _ {V : Type 0} (K : Kind V) (n : ℕ) (ls : List (Link V)) (es : List Entry) (best : V) (u v : ℕ) (r : Bool) where
   pub triangle_decided :
-        MatchBool r
-        ((k : ℕ) × (k < length (range_with_len 0 n)) × HoldsAt (Apex K n ls es u v) (range_with_len 0 n) k)
-        (AllWithin (λ w. Apex K n ls es u v w → ⊥) (range_with_len 0 n) 0 (length (range_with_len 0 n)))
+      MatchBool r
+      ((k : ℕ) × (k < length (range_with_len 0 n)) × HoldsAt (Apex K n ls es u v) (range_with_len 0 n) k)
+      (AllWithin (λ w. Apex K n ls es u v w → ⊥) (range_with_len 0 n) 0 (length (range_with_len 0 n)))
       → Decides r (Meets K n ls es best u v Triangle)
   triangle_decided h =
       let below : (w : ℕ) → Apex K n ls es u v w → w < n = λ w is. stands_less n es w (third_apart n es u v w is.0).0 in

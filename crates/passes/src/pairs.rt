@@ -67,13 +67,7 @@ fn is_apex<W: Weight>(
 }
 
 // Triangle: some third group makes one of the pair.
-pub fn is_triangle<W: Weight>(
-    table: &[W],
-    groups: &Groups,
-    n: usize,
-    u: usize,
-    v: usize,
-) -> bool
+pub fn is_triangle<W: Weight>(table: &[W], groups: &Groups, n: usize, u: usize, v: usize) -> bool
     requires units { groups.now.units ≡ n }
     requires size { n * n ≤ length table.now }
     requires u { u < n }
@@ -99,6 +93,7 @@ pub fn is_neighbourhood<W: Weight>(
     ensures { (ls : List (Link W.Weight.Value)) (es : List Entry) → Explains W.Weight n ls es table.now groups.now → Standing groups.now n u v → Decides result (Meets (kind_of W.Weight) n ls es (W.Weight.value best) u v Neighbourhood) }
 {
     let mut sum = entry(table, n, u, v);
+    // The groups' numbers are what is gone over, here and below: they are rows and columns of the table.
     for w in 0..n {
         if is_third(groups, u, v, w) {
             sum = add(sum, lesser(entry(table, n, u, w), entry(table, n, v, w)));
@@ -150,6 +145,7 @@ pub fn first_pair<W: Weight>(
     ensures order { IfSome result (λ p. (p.0 < p.1) × (p.1 < n)) }
     ensures passed { (ls : List (Link W.Weight.Value)) (es : List Entry) → Explains W.Weight n ls es table.now groups.now → Passed (kind_of W.Weight) n ls es (W.Weight.value best) result }
 {
+    // Two loops that one break leaves: a closure could not leave both.
     'pass: {
         for u in 0..n {
             if !groups.stands(u) {

@@ -13,14 +13,14 @@ pub loop-w-preserved : goal.loop-w-preserved
 loop-w-preserved g c = λ ls es ex pair.
     let before = c.loop-w.invariant ls es ex pair in
     elim c.if-is_third.branch [
-      then-is_third w ↦
-        let is : true ≡ third_mark c.args.groups.now c.args.u c.args.v c.loop-w.w = cc in
-        let more = gathered_added g.met.W.Weight.laws ex pair c.loop-w.w c.loop-w-test.true is _ _ _ _ _ before w.entry.ensures.value w.entry-then-is_third.ensures.value w.lesser.ensures w.add-sum.ensures in
-        cc
-    | else-is_third w ↦
-        let skips = third_marked ex c.args.u c.args.v c.loop-w.w false c.loop-w-test.true (cc) in
-        let same = gathered_skip (kind_of g.W.Weight) c.args.n ls es c.args.u c.args.v c.loop-w.w skips in
-        cc
+      | then-is_third w ↦
+          let is : true ≡ third_mark c.args.groups.now c.args.u c.args.v c.loop-w.w = cc in
+          let more = gathered_added g.met.W.Weight.laws ex pair c.loop-w.w c.loop-w-test.true is _ _ _ _ _ before w.entry.ensures.value w.entry-then-is_third.ensures.value w.lesser.ensures w.add-sum.ensures in
+          cc
+      | else-is_third w ↦
+          let skips = third_marked ex c.args.u c.args.v c.loop-w.w false c.loop-w-test.true (cc) in
+          let same = gathered_skip (kind_of g.W.Weight) c.args.n ls es c.args.u c.args.v c.loop-w.w skips in
+          cc
     ]
 
 pub returns : goal.returns
