@@ -1,5 +1,5 @@
 -- The links of a plan, parted at one of them.
-use Rattle.std.proofs.Common.{◌≡◌, ℕ, zero, suc, ◌<◌, List, [], ◌∷◌, ◌++◌, map, length, get_or, sym, refl, ap, arith}
+use Rattle.std.proofs.Common.{◌≡◌, ℕ, zero, suc, ◌<◌, List, [], ◌∷◌, ◌++◌, length, get_or, sym, refl, ap, arith}
 use Rattle.std.specs.List.{remove}
 use Rattle.plans.specs.declared.plan.Link.{Link}
 use Rattle.plans.specs.Model.{changed}
@@ -35,8 +35,3 @@ pub outlive_at_lem : {W : Type 0} (sides : List ℕ) (edit : Link W → Edit) (l
 outlive_at_lem sides edit [] k l h is = absurd (omega arith)
 outlive_at_lem sides edit (x ∷ ls) zero l h is = ap (λ y. outlives sides (edit y)) (sym is)
 outlive_at_lem sides edit (x ∷ ls) (suc k) l h is = outlive_at_lem sides edit ls k l (omega arith) is
-
--- a list of which each entry is looked at
-pub map_parts : {X Y : Type 0} (f : X → Y) (xs ys : List X) → map f (xs ++ ys) ≡ map f xs ++ map f ys
-map_parts f [] ys = refl
-map_parts {X} {Y} f (x ∷ xs) ys = ap (λ (zs : List Y). f x ∷ zs) (map_parts f xs ys)

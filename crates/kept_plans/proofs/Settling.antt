@@ -15,7 +15,7 @@ use Rattle.plans.proofs.Verdicts.{fails, passes}
 use Rattle.kept_plans.specs.declared.filing.Filing.{Filing}
 use Rattle.kept_plans.specs.declared.kept.Edit.{Edit}
 use Rattle.kept_plans.specs.Edits.{outlives, outlive_at}
-use Rattle.kept_plans.specs.Filed.{Marks, Current}
+use Rattle.kept_plans.specs.Filed.{Filed, Marks}
 use Rattle.kept_plans.proofs.Parting.{outlive_at_lem}
 use Rattle.kept_plans.proofs.Staying.{Fairly, fair_plan}
 
@@ -39,15 +39,19 @@ in_model g p s k l h is = (rw (link_size_lem g p s) h, is ∙ sym (get_or-take p
 pub outlives_it : {W : Type 0} (g : Ghosts W) (p : Plan W) → Sound g p → (sides : List ℕ) (edit : Link W → Edit) (k : ℕ) (l : Link W) → k < p.link_count → l ≡ get_or p.links.now k l → outlives sides (edit l) ≡ outlive_at sides edit (model_of p).links k
 outlives_it g p s sides edit k l h is = let m = in_model g p s k l h is in sym (outlive_at_lem sides edit (model_of p).links k l m.0 m.1)
 
--- marks that stay are those of a weakest division of the new plan
-pub stays_current : {W : Type 0} (g : Ghosts W) (before after : Filing W) (stay : Bool) (next : Model W) → Sound g before.plan → Sound g after.plan → model_of after.plan ≡ next
+-- a filing whose marks stay as the table says keeps what every filing keeps
+pub stays_filed : {W : Type 0} (g : Ghosts W) (before after : Filing W) (stay : Bool) (next : Model W) → Sound g after.plan → model_of after.plan ≡ next
     → after.kept.kept ≡ (before.kept.kept && stay) → after.kept.sides ≡ before.kept.sides
     → (Fairly g (model_of before.plan) → Fairly g next → Marks g (model_of before.plan) before.kept.sides → stay ≡ true → Marks g next before.kept.sides)
-    → Current g before → Current g after
-stays_current g before after stay next s t is kept sides keeps current flag =
-    let both = and_parts before.kept.kept stay (sym kept ∙ flag) in
-    let new = keeps (fair_plan g before.plan s) (subst (λ m. Fairly g m) is (fair_plan g after.plan t)) (current both.0) both.1 in
-    subst (λ m. Marks g m after.kept.sides) (sym is) (subst (λ xs. Marks g next xs) (sym sides) new)
+    → Filed g before → Filed g after
+stays_filed g before after stay next t is kept sides keeps filed = record {
+  plan = t;
+  sides = ap length sides ∙ filed.sides;
+  current = λ flag.
+      let both = and_parts before.kept.kept stay (sym kept ∙ flag) in
+      let new = keeps (fair_plan g before.plan filed.plan) (subst (λ m. Fairly g m) is (fair_plan g after.plan t)) (filed.current both.0) both.1 in
+      subst (λ m. Marks g m after.kept.sides) (sym is) (subst (λ xs. Marks g next xs) (sym sides) new);
+}
 
 -- a mark that is accepted is 0 or 1
 pub mark_below : {W : Type 0} (m : Model W) (k b : ℕ) → mark_verdict m k b ≡ None → b < 2

@@ -2,8 +2,8 @@
 use Rattle.std.proofs.Common.{◌≡◌, ℕ, zero, suc, ◌+◌, ◌<◌, ◌≤◌, Bool, true, false, cond, not, ◌||◌, eqb, ◌⊎◌, List, [], ◌∷◌, ◌++◌, map, length, get_or, sym, refl, ap, ◌∙◌, subst, inl, inr, ⊎_elim, arith, length-set}
 use Rattle.std.specs.List.{AllByRecursion}
 use Rattle.std.proofs.ByRecursion.{all_from_every}
-use Rattle.std.proofs.lemmas.List.{get_or-take}
-use Rattle.std.proofs.lemmas.Bool.{both_ways, eqb-true}
+use Rattle.std.proofs.lemmas.List.{get_or-take, map-append}
+use Rattle.std.proofs.lemmas.Bool.{both_ways, eqb-true, false≢true}
 use Rattle.std.proofs.lemmas.Bool.Decides.{nat_tests}
 use Rattle.weights.specs.declared.weight.Weight.{Ghosts}
 use Rattle.weights.specs.Laws.{Laws, limit}
@@ -22,10 +22,7 @@ use Rattle.plans.proofs.Linking.{unit_size, link_size_lem}
 use Rattle.kept_plans.specs.declared.kept.Change.TheVariants.{Equal, Heavier, Lighter}
 use Rattle.kept_plans.specs.Edits.{is_one_side, suits, outlives, strike_of, reweigh_of, mark_of, stays, striking, reweighing, marking}
 use Rattle.kept_plans.specs.Filed.{Marks}
-use Rattle.kept_plans.proofs.Parting.{Parted, parted, map_parts}
-
-false_true : {P : Type 0} → false ≡ true → P
-false_true e = absurd (both_ways false refl e)
+use Rattle.kept_plans.proofs.Parting.{Parted, parted}
 
 -- one side or different sides, by the bytes and by the marks
 same_side : (x y : ℕ) → eqb x y ≡ true → eqb x 1 ≡ eqb y 1
@@ -38,7 +35,7 @@ other_side x y hx hy e s = grind (arith, nat_tests)
 out_why : (s one : Bool) → (not s || not one) ≡ true → (s ≡ false) ⊎ (one ≡ false)
 out_why false one h = inl refl
 out_why true false h = inr refl
-out_why true true h = false_true h
+out_why true true h = absurd (false≢true h)
 
 in_why : (s one : Bool) → (s || one) ≡ true → (s ≡ true) ⊎ (one ≡ true)
 in_why true one h = inl refl
@@ -46,9 +43,9 @@ in_why false one h = inr h
 
 suits_why : (one a b : Bool) → (a ≡ false → b ≡ true) → suits one (cond a (cond b Equal Heavier) Lighter) ≡ true → ((one ≡ true) × (a ≡ true)) ⊎ ((one ≡ false) × (b ≡ true))
 suits_why true true b either h = inl (refl, refl)
-suits_why true false b either h = false_true h
+suits_why true false b either h = absurd (false≢true h)
 suits_why false true true either h = inr (refl, refl)
-suits_why false true false either h = false_true h
+suits_why false true false either h = absurd (false≢true h)
 suits_why false false b either h = inr (refl, either refl)
 
 reweigh_why : (s one a b : Bool) → (a ≡ false → b ≡ true) → (not s || suits one (cond a (cond b Equal Heavier) Lighter)) ≡ true → (s ≡ false) ⊎ (((one ≡ true) × (a ≡ true)) ⊎ ((one ≡ false) × (b ≡ true)))
@@ -108,7 +105,7 @@ module _ {W : Type 0} (g : Ghosts W) where
 
     pub linked_stays : (l : Link W) → Fairly (linked l m) → is_one_side sides l.first l.second ≡ true → Marks g (linked l m) sides
     linked_stays l new one =
-        let e = map_parts (valued g) m.links (l ∷ []) in
+        let e = map-append (valued g) m.links (l ∷ []) in
         remains (m.links ++ (l ∷ [])) (rw e ((edits_keep_lem (kind_of g) laws).link units (side_of sides) (links_of g m) (valued g l) (one_side l.first l.second one) fair (rw e at new) marks.weakest))
 
     module _ (k : ℕ) (there : k < length m.links) where
@@ -122,7 +119,7 @@ module _ {W : Type 0} (g : Ghosts W) where
       qs = map (valued g) at.back
 
       whole : links_of g m ≡ ps ++ (valued g at.here ∷ qs)
-      whole = ap (map (valued g)) at.all ∙ map_parts (valued g) at.front (at.here ∷ at.back)
+      whole = ap (map (valued g)) at.all ∙ map-append (valued g) at.front (at.here ∷ at.back)
 
       ends : (at.here.first < units) × (at.here.second < units)
       ends = ends_here units ps qs (valued g at.here) (subst (λ ls. Fair (kind_of g) units ls) whole fair).ends
@@ -138,13 +135,13 @@ module _ {W : Type 0} (g : Ghosts W) where
       moves ls after e new keeps = remains ls (subst (λ xs. Weakest (kind_of g) units xs (side_of sides)) (sym e) (keeps (subst (λ xs. Fair (kind_of g) units xs) whole fair) (subst (λ xs. Fair (kind_of g) units xs) e new) (subst (λ xs. Weakest (kind_of g) units xs (side_of sides)) whole marks.weakest)))
 
       changes : (f : Link W → Link W) → map (valued g) (changed k f m.links) ≡ ps ++ (valued g (f at.here) ∷ qs)
-      changes f = ap (map (valued g)) (at.new f) ∙ map_parts (valued g) at.front (f at.here ∷ at.back)
+      changes f = ap (map (valued g)) (at.new f) ∙ map-append (valued g) at.front (f at.here ∷ at.back)
 
       out_told : outlives sides (strike_of at.here) ≡ true → (at.here.in_service ≡ false) ⊎ DifferentSides (side_of sides) (valued g at.here)
       out_told h = ⊎_elim inl (λ e. inr (apart e)) (out_why at.here.in_service (is_one_side sides at.here.first at.here.second) h)
 
       pub struck_stays : Fairly (struck k m) → stays g m sides (striking k) ≡ true → Marks g (struck k m) sides
-      struck_stays new stay = moves (struck k m).links (ps ++ qs) (ap (map (valued g)) at.less ∙ map_parts (valued g) at.front at.back) new ((edits_keep_lem (kind_of g) laws).strike units (side_of sides) ps qs (valued g at.here) (out_told (sym (at.stay sides strike_of) ∙ stay)))
+      struck_stays new stay = moves (struck k m).links (ps ++ qs) (ap (map (valued g)) at.less ∙ map-append (valued g) at.front at.back) new ((edits_keep_lem (kind_of g) laws).strike units (side_of sides) ps qs (valued g at.here) (out_told (sym (at.stay sides strike_of) ∙ stay)))
 
       pub marked_stays : (b : ℕ) → b < 2 → Fairly (marked k (eqb b 1) m) → stays g m sides (marking k b) ≡ true → Marks g (marked k (eqb b 1) m) sides
       marked_stays zero low new stay = moves (marked k false m).links _ (changes _) new ((edits_keep_lem (kind_of g) laws).mark_out units (side_of sides) ps qs (valued g at.here) (out_told (sym (at.stay sides (mark_of 0)) ∙ stay)))

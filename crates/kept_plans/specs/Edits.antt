@@ -5,6 +5,7 @@ use Rattle.plans.specs.declared.plan.Link.{Link as Joint}
 use Rattle.plans.specs.Model.{Model}
 use Rattle.kept_plans.specs.declared.kept.Change.{Change}
 use Rattle.kept_plans.specs.declared.kept.Change.TheVariants.{Equal, Heavier, Lighter}
+use Rattle.kept_plans.specs.declared.kept.Ends.{Ends}
 use Rattle.kept_plans.specs.declared.kept.Edit.{Edit}
 use Rattle.kept_plans.specs.declared.kept.Edit.TheVariants.{Enter, Read, Recode, Link, Out, In, Reweigh}
 
@@ -14,9 +15,9 @@ Within Enter = Unit {0}
 Within Read = Unit {0}
 Within Recode = Unit {0}
 Within (Link a b) = (a < 64) × (b < 64)
-Within (Out a b s) = (a < 64) × (b < 64)
-Within (In a b s) = (a < 64) × (b < 64)
-Within (Reweigh a b s c) = (a < 64) × (b < 64)
+Within (Out l) = (l.first < 64) × (l.second < 64)
+Within (In l) = (l.first < 64) × (l.second < 64)
+Within (Reweigh l c) = (l.first < 64) × (l.second < 64)
 
 -- both units are on one side
 abbrev pub is_one_side : List ℕ → ℕ → ℕ → Bool
@@ -34,9 +35,9 @@ outlives sides Enter = false
 outlives sides Read = false
 outlives sides Recode = true
 outlives sides (Link a b) = is_one_side sides a b
-outlives sides (Out a b s) = not s || not (is_one_side sides a b)
-outlives sides (In a b s) = s || is_one_side sides a b
-outlives sides (Reweigh a b s c) = not s || suits (is_one_side sides a b) c
+outlives sides (Out l) = not l.in_service || not (is_one_side sides l.first l.second)
+outlives sides (In l) = l.in_service || is_one_side sides l.first l.second
+outlives sides (Reweigh l c) = not l.in_service || suits (is_one_side sides l.first l.second) c
 
 -- how a new weight compares with the old one, by the order of the kind
 abbrev pub change_of : {W : Type 0} → Ghosts W → W → W → Change
@@ -51,15 +52,19 @@ pub data Call (W : Type 0) : Type 0 where
   reweighing : ℕ → W → Call W
   marking : ℕ → ℕ → Call W
 
+-- what an edit looks at of a link
+abbrev pub ends_of : {W : Type 0} → Joint W → Ends
+ends_of l = record { first = l.first; second = l.second; in_service = l.in_service }
+
 -- the edit that a call makes of a link, by the link as it was: struck, marked 0 or 1, or given another weight
 abbrev pub strike_of : {W : Type 0} → Joint W → Edit
-strike_of l = Out l.first l.second l.in_service
+strike_of l = Out (ends_of l)
 
 abbrev pub mark_of : {W : Type 0} → ℕ → Joint W → Edit
-mark_of b l = cond (b == 0) (Out l.first l.second l.in_service) (In l.first l.second l.in_service)
+mark_of b l = cond (b == 0) (Out (ends_of l)) (In (ends_of l))
 
 abbrev pub reweigh_of : {W : Type 0} → Ghosts W → W → Joint W → Edit
-reweigh_of g w l = Reweigh l.first l.second l.in_service (change_of g l.weight w)
+reweigh_of g w l = Reweigh (ends_of l) (change_of g l.weight w)
 
 -- whether marks outlive an edit of link number k
 abbrev pub outlive_at : {W : Type 0} → List ℕ → (Joint W → Edit) → List (Joint W) → ℕ → Bool

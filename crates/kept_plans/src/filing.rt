@@ -1,5 +1,5 @@
 // A plan with the marks that it keeps.
-ghost use Rattle.std.specs.Prelude.{◌≡◌, ◌<◌, ◌≤◌, true, false, [], length, take, IfErr, OnOk, ◌==◌};
+ghost use Rattle.std.specs.Prelude.{◌≡◌, ◌<◌, ◌≤◌, true, false, cond, [], length, take, IfErr, OnOk, ◌==◌};
 ghost use Rattle.plans.specs.Calls.{Answered, Called, enter_verdict, link_verdict, mark_verdict, most_links, recode_verdict, reweigh_verdict, strike_verdict};
 ghost use Rattle.plans.specs.Divided.{weigh_verdict, weighed};
 ghost use Rattle.plans.specs.Marks.{Shows, Untouched};
@@ -8,10 +8,11 @@ ghost use Rattle.plans.specs.Sound.{Sound};
 ghost use Rattle.sheets.specs.Faults.{FirstFault};
 ghost use Rattle.sheets.specs.Fields.{issue_in};
 ghost use Rattle.sheets.specs.Format.{sheet_of, Valid};
-ghost use Rattle.kept_plans.specs.Edits.{change_of, entering, linking, mark_of, marking, recoding, reweighing, stays, striking, Within};
+ghost use Rattle.kept_plans.specs.Edits.{change_of, entering, linking, marking, recoding, reweighing, stays, striking};
+ghost use Rattle.kept_plans.specs.declared.kept.Edit.TheVariants.{In, Out};
 ghost use Rattle.kept_plans.specs.Filed.{Filed, Marks, Settled};
 
-use crate::kept::{Change, Edit, Kept};
+use crate::kept::{Change, Edit, Ends, Kept};
 use plans::plan::{Link, Plan};
 use readers::read;
 use refusals::Refusal;
@@ -36,25 +37,12 @@ fn change<W: Weight>(before: W, after: W) -> Change
 }
 
 // The edit that a mark, 0 or 1, makes of a link.
-fn mark_edit<W: Weight>(link: Link<W>, mark: u8) -> Edit
-    requires { (link.first < 64) × (link.second < 64) }
-    ensures edit { result ≡ mark_of mark link }
-    ensures within { Within result }
+fn mark_edit(link: Ends, mark: u8) -> Edit
+    ensures { result ≡ cond (mark == 0) (Out link) (In link) }
 {
-    let first = link.first as usize;
-    let second = link.second as usize;
-    let in_service = link.in_service;
     match mark {
-        0 => Edit::Out {
-            first,
-            second,
-            in_service,
-        },
-        _ => Edit::In {
-            first,
-            second,
-            in_service,
-        },
+        0 => Edit::Out(link),
+        _ => Edit::In(link),
     }
 }
 
@@ -135,11 +123,7 @@ impl<'a, W: Weight> Filing<'a, W> {
     {
         let old = self.plan.link_at(link)?;
         self.plan.strike(link)?;
-        self.kept.settle(Edit::Out {
-            first: old.first as usize,
-            second: old.second as usize,
-            in_service: old.in_service,
-        });
+        self.kept.settle(Edit::Out(Ends::from(old)));
         Ok(())
     }
 
@@ -166,12 +150,8 @@ impl<'a, W: Weight> Filing<'a, W> {
     {
         let old = self.plan.link_at(link)?;
         self.plan.reweigh(link, weight)?;
-        self.kept.settle(Edit::Reweigh {
-            first: old.first as usize,
-            second: old.second as usize,
-            in_service: old.in_service,
-            change: change(old.weight, weight),
-        });
+        self.kept
+            .settle(Edit::Reweigh(Ends::from(old), change(old.weight, weight)));
         Ok(())
     }
 
@@ -185,7 +165,7 @@ impl<'a, W: Weight> Filing<'a, W> {
     {
         let old = self.plan.link_at(link)?;
         self.plan.mark(link, mark)?;
-        self.kept.settle(mark_edit(old, mark));
+        self.kept.settle(mark_edit(Ends::from(old), mark));
         Ok(())
     }
 

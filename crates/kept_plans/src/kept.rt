@@ -1,6 +1,8 @@
 // The marks that a plan keeps of its last weakest division, and what becomes of them by an edit.
 ghost use Rattle.std.specs.Prelude.{◌≡◌, ℕ, ◌<◌, ◌≤◌, true, false, ◌&&◌, length, take, drop};
-ghost use Rattle.kept_plans.specs.Edits.{outlives, Within};
+ghost use Rattle.kept_plans.specs.Edits.{ends_of, is_one_side, outlives, Within};
+
+use plans::plan::Link;
 
 // How a new weight compares with the old one.
 #[derive(Clone, Copy)]
@@ -10,53 +12,46 @@ pub enum Change {
     Lighter,
 }
 
-// An accepted edit, with what decides over kept marks: the ends of its link, and whether that was in service.
+// What decides over kept marks of a link as it was: its two units, and whether it was in service.
+#[derive(Clone, Copy)]
+pub struct Ends {
+    pub first: usize,
+    pub second: usize,
+    pub in_service: bool,
+}
+
+impl<W: Copy> From<Link<W>> for Ends {
+    ghost from_gives = { λ link ends. ends ≡ ends_of link };
+
+    fn from(link: Link<W>) -> Ends {
+        Ends {
+            first: link.first as usize,
+            second: link.second as usize,
+            in_service: link.in_service,
+        }
+    }
+}
+
+// An accepted edit, with what decides over kept marks.
 #[derive(Clone, Copy)]
 pub enum Edit {
     Enter,
     Read,
     Recode,
-    Link {
-        first: usize,
-        second: usize,
-    },
+    Link { first: usize, second: usize },
     // strike, and mark 0
-    Out {
-        first: usize,
-        second: usize,
-        in_service: bool,
-    },
+    Out(Ends),
     // mark 1
-    In {
-        first: usize,
-        second: usize,
-        in_service: bool,
-    },
-    Reweigh {
-        first: usize,
-        second: usize,
-        in_service: bool,
-        change: Change,
-    },
+    In(Ends),
+    Reweigh(Ends, Change),
 }
 
-// Whether marks are kept, and the side of each unit.
+// Whether marks are kept, and the side of each unit. A flag with the sides beside it, as the rules name the form that
+// matches it with the edit, and the sides stay as they were when it falls.
 #[derive(Drop)]
 pub struct Kept {
     kept: bool,
     sides: [u8; 64],
-}
-
-// Copies the first n bytes; the rest stays.
-fn copy(to: &mut [u8], from: &[u8], n: usize)
-    requires to { n ≤ length to.old }
-    requires from { n ≤ length from.now }
-    ensures front { take n to.new ≡ take n from.now }
-    ensures rest { drop n to.new ≡ drop n to.old }
-{
-    for i in 0..n {
-        to[i] = from[i];
-    }
 }
 
 impl Kept {
@@ -87,58 +82,22 @@ impl Kept {
             (false, _) => false,
             (true, Edit::Recode) => true,
             (true, Edit::Link { first, second }) if self.sides[first] == self.sides[second] => true,
-            (
-                true,
-                Edit::Out {
-                    in_service: false,
-                    ..
-                },
-            ) => true,
-            (true, Edit::Out { first, second, .. }) if self.sides[first] != self.sides[second] =>
-                true,
-            (
-                true,
-                Edit::In {
-                    in_service: true,
-                    ..
-                },
-            ) => true,
-            (true, Edit::In { first, second, .. }) if self.sides[first] == self.sides[second] =>
-                true,
-            (
-                true,
-                Edit::Reweigh {
-                    in_service: false,
-                    ..
-                },
-            ) => true,
-            (
-                true,
-                Edit::Reweigh {
-                    change: Change::Equal,
-                    ..
-                },
-            ) => true,
-            (
-                true,
-                Edit::Reweigh {
-                    first,
-                    second,
-                    change: Change::Heavier,
-                    ..
-                },
-            ) if self.sides[first] == self.sides[second] => true,
-            (
-                true,
-                Edit::Reweigh {
-                    first,
-                    second,
-                    change: Change::Lighter,
-                    ..
-                },
-            ) if self.sides[first] != self.sides[second] => true,
+            (true, Edit::Out(link)) if !link.in_service || !self.is_one_side(link) => true,
+            (true, Edit::In(link)) if link.in_service || self.is_one_side(link) => true,
+            (true, Edit::Reweigh(link, _)) if !link.in_service => true,
+            (true, Edit::Reweigh(_, Change::Equal)) => true,
+            (true, Edit::Reweigh(link, Change::Heavier)) if self.is_one_side(link) => true,
+            (true, Edit::Reweigh(link, Change::Lighter)) if !self.is_one_side(link) => true,
             _ => false,
         };
+    }
+
+    // Whether both units of a link are on one side.
+    fn is_one_side(&self, link: Ends) -> bool
+        requires { (link.first < 64) × (link.second < 64) }
+        ensures { result ≡ is_one_side self.now.sides link.first link.second }
+    {
+        self.sides[link.first] == self.sides[link.second]
     }
 
     // Keeps the marks of the first n units.
@@ -149,7 +108,7 @@ impl Kept {
         ensures sides { take n self.new.sides ≡ take n marks.now }
         ensures size { length self.new.sides ≡ 64 }
     {
-        copy(&mut self.sides, marks, n);
+        self.sides[..n].copy_from_slice(&marks[..n]);
         self.kept = true;
     }
 
@@ -160,6 +119,6 @@ impl Kept {
         ensures front { take n marks.new ≡ take n self.now.sides }
         ensures rest { drop n marks.new ≡ drop n marks.old }
     {
-        copy(marks, &self.sides, n);
+        marks[..n].copy_from_slice(&self.sides[..n]);
     }
 }

@@ -1,13 +1,13 @@
-use Rattle.std.proofs.Common.{true, length, ap, ◌∙◌}
+use Rattle.std.proofs.Common.{true}
 use Rattle.plans.specs.declared.plan.Link.{Link}
 use Rattle.plans.specs.Model.{model_of, linked}
 use Rattle.kept_plans.specs.Edits.{is_one_side}
 use Rattle.kept_plans.proofs.Staying.{linked_stays}
-use Rattle.kept_plans.proofs.Settling.{now_next, stays_current}
+use Rattle.kept_plans.proofs.Settling.{now_next, stays_filed}
 use Rattle.kept_plans.proofs.filing.Filing.link.Goals as goal
 
-pub returns : goal.returns
-returns g c =
+pub returns-clause-filed : goal.returns-clause-filed
+returns-clause-filed g c =
     let w = g.W.Weight in
     let met = g.met.W.Weight in
     let f = c.args.self.now in
@@ -16,11 +16,5 @@ returns g c =
     let l : Link g.row.W.Denot = record { first = a; second = b; in_service = true; weight = c.args.weight } in
     let done = c.in_ok-link.ensures in
     let settled = c.settle.ensures in
-    let current = stays_current w f _ (is_one_side f.kept.sides a b) (linked l (model_of f.plan)) c.requires done.sound (now_next done.called) settled.kept settled.sides
-    (λ fair new marks stay. linked_stays w met.laws met.bounded (model_of f.plan) f.kept.sides fair marks l new stay) in
-    record {
-      sound = done.sound;
-      filed = λ h. record { plan = done.sound; sides = ap length settled.sides ∙ h.sides; current = current h.current };
-      called = done.called;
-      kept = (settled.kept, settled.sides);
-    }
+    stays_filed w f _ (is_one_side f.kept.sides a b) (linked l (model_of f.plan)) done.sound (now_next done.called) settled.kept settled.sides
+    (λ fair new marks stay. linked_stays w met.laws met.bounded (model_of f.plan) f.kept.sides fair marks l new stay)

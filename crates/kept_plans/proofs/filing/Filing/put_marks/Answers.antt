@@ -1,19 +1,14 @@
-use Rattle.std.proofs.Common.{sym, refl, subst}
+use Rattle.std.proofs.Common.{sym, subst}
 use Rattle.kept_plans.specs.Filed.{Marks}
 use Rattle.kept_plans.proofs.Keeping.{untouched_model}
 use Rattle.kept_plans.proofs.filing.Filing.put_marks.Goals as goal
 
-pub returns : goal.returns
-returns g c =
+pub returns-clause-filed : goal.returns-clause-filed
+returns-clause-filed g c filed =
     let f = c.args.self.now in
-    let same = c.put_marks.ensures.same c.requires.shows in
+    let same = untouched_model f.plan c.put_marks.new.self (c.put_marks.ensures.same c.requires.shows) in
     record {
-      sound = c.put_marks.ensures.sound;
-      filed = λ h. record {
-        plan = c.put_marks.ensures.sound;
-        sides = h.sides;
-        current = λ kept. subst (λ m. Marks g.W.Weight m f.kept.sides) (sym (untouched_model f.plan c.put_marks.new.self same)) (h.current kept);
-      };
-      kept = refl;
-      same = same;
+      plan = c.put_marks.ensures.sound;
+      sides = filed.sides;
+      current = λ kept. subst (λ m. Marks g.W.Weight m f.kept.sides) (sym same) (filed.current kept);
     }

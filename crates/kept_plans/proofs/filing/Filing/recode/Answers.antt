@@ -1,23 +1,16 @@
-use Rattle.std.proofs.Common.{length, ap, ◌∙◌}
 use Rattle.plans.specs.Model.{model_of, recoded}
 use Rattle.kept_plans.specs.Edits.{outlives}
 use Rattle.kept_plans.specs.declared.kept.Edit.TheVariants.{Recode}
 use Rattle.kept_plans.proofs.Staying.{recoded_stays}
-use Rattle.kept_plans.proofs.Settling.{now_next, stays_current}
+use Rattle.kept_plans.proofs.Settling.{now_next, stays_filed}
 use Rattle.kept_plans.proofs.filing.Filing.recode.Goals as goal
 
-pub returns : goal.returns
-returns g c =
+pub returns-clause-filed : goal.returns-clause-filed
+returns-clause-filed g c =
     let w = g.W.Weight in
     let met = g.met.W.Weight in
     let f = c.args.self.now in
     let done = c.in_ok-recode.ensures in
     let settled = c.settle.ensures in
-    let current = stays_current w f _ (outlives f.kept.sides Recode) (recoded c.args.unit c.args.text.now (model_of f.plan)) c.requires done.sound (now_next done.called) settled.kept settled.sides
-    (λ fair new marks stay. recoded_stays w met.laws met.bounded (model_of f.plan) f.kept.sides fair marks c.args.unit c.args.text.now) in
-    record {
-      sound = done.sound;
-      filed = λ h. record { plan = done.sound; sides = ap length settled.sides ∙ h.sides; current = current h.current };
-      called = done.called;
-      kept = (settled.kept, settled.sides);
-    }
+    stays_filed w f _ (outlives f.kept.sides Recode) (recoded c.args.unit c.args.text.now (model_of f.plan)) done.sound (now_next done.called) settled.kept settled.sides
+    (λ fair new marks stay. recoded_stays w met.laws met.bounded (model_of f.plan) f.kept.sides fair marks c.args.unit c.args.text.now)

@@ -1,9 +1,9 @@
-use Rattle.std.proofs.Common.{◌&&◌, length, ap, ◌∙◌}
+use Rattle.std.proofs.Common.{◌&&◌, ap, ◌∙◌}
 use Rattle.plans.specs.Model.{model_of, reweighed}
-use Rattle.kept_plans.specs.Edits.{outlives, reweighing, stays, reweigh_of}
+use Rattle.kept_plans.specs.Edits.{ends_of, outlives, reweighing, stays, reweigh_of}
 use Rattle.kept_plans.specs.declared.kept.Edit.TheVariants.{Reweigh}
 use Rattle.kept_plans.proofs.Staying.{reweighed_stays}
-use Rattle.kept_plans.proofs.Settling.{in_model, now_next, outlives_it, stays_current}
+use Rattle.kept_plans.proofs.Settling.{in_model, now_next, outlives_it, stays_filed}
 use Rattle.kept_plans.proofs.filing.Filing.reweigh.Goals as goal
 
 pub returns : goal.returns
@@ -17,12 +17,12 @@ returns g c =
     let was = c.in_ok-old.ensures.value in
     let done = c.in_ok-reweigh.ensures in
     let settled = c.settle.ensures in
-    let kept = (settled.kept ∙ ap (λ h. f.kept.kept && outlives f.kept.sides (Reweigh old.first old.second old.in_service h)) c.change.ensures) ∙ ap (λ b. f.kept.kept && b) (outlives_it w f.plan c.requires f.kept.sides (reweigh_of w c.args.weight) k old was.0 was.1) in
-    let current = stays_current w f _ (stays w m f.kept.sides (reweighing k c.args.weight)) (reweighed k c.args.weight m) c.requires done.sound (now_next done.called) kept settled.sides
+    let kept = settled.kept ∙ ap (λ l. f.kept.kept && outlives f.kept.sides (Reweigh l c.change.result)) c.from.ensures ∙ ap (λ h. f.kept.kept && outlives f.kept.sides (Reweigh (ends_of old) h)) c.change.ensures ∙ ap (λ b. f.kept.kept && b) (outlives_it w f.plan c.requires f.kept.sides (reweigh_of w c.args.weight) k old was.0 was.1) in
+    let filed = stays_filed w f _ (stays w m f.kept.sides (reweighing k c.args.weight)) (reweighed k c.args.weight m) done.sound (now_next done.called) kept settled.sides
     (λ fair new marks stay. reweighed_stays w met.laws met.bounded m f.kept.sides fair marks k (in_model w f.plan c.requires k old was.0 was.1).0 c.args.weight new stay) in
     record {
       sound = done.sound;
-      filed = λ h. record { plan = done.sound; sides = ap length settled.sides ∙ h.sides; current = current h.current };
+      filed = filed;
       called = done.called;
       kept = (kept, settled.sides);
     }

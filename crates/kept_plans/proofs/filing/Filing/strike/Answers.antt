@@ -1,8 +1,9 @@
-use Rattle.std.proofs.Common.{◌&&◌, length, ap, ◌∙◌}
+use Rattle.std.proofs.Common.{◌&&◌, ap, ◌∙◌}
 use Rattle.plans.specs.Model.{model_of, struck}
-use Rattle.kept_plans.specs.Edits.{strike_of, stays, striking}
+use Rattle.kept_plans.specs.Edits.{outlives, strike_of, stays, striking}
+use Rattle.kept_plans.specs.declared.kept.Edit.TheVariants.{Out}
 use Rattle.kept_plans.proofs.Staying.{struck_stays}
-use Rattle.kept_plans.proofs.Settling.{in_model, now_next, outlives_it, stays_current}
+use Rattle.kept_plans.proofs.Settling.{in_model, now_next, outlives_it, stays_filed}
 use Rattle.kept_plans.proofs.filing.Filing.strike.Goals as goal
 
 pub returns : goal.returns
@@ -16,12 +17,12 @@ returns g c =
     let was = c.in_ok-old.ensures.value in
     let done = c.in_ok-strike.ensures in
     let settled = c.settle.ensures in
-    let kept = settled.kept ∙ ap (λ b. f.kept.kept && b) (outlives_it w f.plan c.requires f.kept.sides strike_of k old was.0 was.1) in
-    let current = stays_current w f _ (stays w m f.kept.sides (striking k)) (struck k m) c.requires done.sound (now_next done.called) kept settled.sides
+    let kept = settled.kept ∙ ap (λ l. f.kept.kept && outlives f.kept.sides (Out l)) c.from.ensures ∙ ap (λ b. f.kept.kept && b) (outlives_it w f.plan c.requires f.kept.sides strike_of k old was.0 was.1) in
+    let filed = stays_filed w f _ (stays w m f.kept.sides (striking k)) (struck k m) done.sound (now_next done.called) kept settled.sides
     (λ fair new marks stay. struck_stays w met.laws met.bounded m f.kept.sides fair marks k (in_model w f.plan c.requires k old was.0 was.1).0 new stay) in
     record {
       sound = done.sound;
-      filed = λ h. record { plan = done.sound; sides = ap length settled.sides ∙ h.sides; current = current h.current };
+      filed = filed;
       called = done.called;
       kept = (kept, settled.sides);
     }
