@@ -1,5 +1,5 @@
 -- The verdicts on weakest and trial, and why an answer is least.
-use Rattle.std.proofs.Common.{◌≡◌, ℕ, ◌-◌, ◌<◌, ◌≤◌, Bool, true, false, eqb, List, length, get_or, take, Some, sym, ap, ◌∙◌, subst, arith}
+use Rattle.std.proofs.Common.{◌≡◌, ℕ, ◌-◌, ◌<◌, ◌≤◌, true, false, eqb, List, length, get_or, take, Some, sym, ap, ◌∙◌, subst, arith}
 use Rattle.std.proofs.lemmas.List.{get_or-take}
 use Rattle.std.proofs.lemmas.Bool.{lt-ltb, le-ltb, le-leb, lt-leb}
 use Rattle.refusals.specs.declared.Refusal.TheVariants.{NoDivision, NoSuchLink, ShortMemory}
@@ -60,8 +60,3 @@ pub part_weighed : {W : Type 0} (g : Ghosts W) → Lawful (kind_of g) → (m : M
 part_weighed g laws m fair n units marks sides front =
     weight_below (kind_of g) laws (length m.codes) (links_of g m) fair (side_of (take (n - 0) marks)) (side_of sides)
     (λ u h. ap (λ b. eqb b 1) (get_or-take (n - 0) marks u 0 (omega arith) ∙ sym (get_or-take n marks u 0 (omega arith)) ∙ ap (λ zs. get_or zs u 0) front ∙ get_or-take n sides u 0 (omega arith)))
-
--- a flag is not both
-pub both_ways : {P : Type 0} (b : Bool) → b ≡ true → b ≡ false → P
-both_ways true t f = absurd (let z : ◌≡◌ {A = ℕ} 0 1 = cc in omega arith)
-both_ways false t f = absurd (let z : ◌≡◌ {A = ℕ} 0 1 = cc in omega arith)
