@@ -15,6 +15,7 @@ use Rattle.cuts.proofs.Facts.{sound_within}
 use Rattle.cuts.proofs.Kept.{edits_keep_lem}
 use Rattle.plans.specs.declared.plan.Link.{Link}
 use Rattle.plans.specs.declared.plan.Plan.{Plan}
+use Rattle.plans.specs.Calls.{most_total}
 use Rattle.plans.specs.Model.{Model, model_of, total_of, changed, linked, struck, reweighed, marked, recoded}
 use Rattle.plans.specs.Divided.{valued, links_of, side_of}
 use Rattle.plans.specs.Sound.{Joins, Sound}
@@ -72,17 +73,22 @@ module _ {W : Type 0} (g : Ghosts W) where
   ends_values n [] a = tt
   ends_values n (l ∷ ls) a = (a.0.first, a.0.second, ends_values n ls a.1)
 
+  -- links that join units of the plan, with amounts that keep the limit
+  pub fair_links : (m : Model W) → AllByRecursion (Joins g (length m.codes)) m.links → total_of g m.links ≤ most_total → Fairly m
+  fair_links m joins limited =
+      let t = total_values m.links in
+      sound_within (kind_of g) (length m.codes) (links_of g m) (ends_values (length m.codes) m.links joins) (omega arith)
+
   pub fair_plan : (p : Plan W) → Sound g p → Fairly (model_of p)
   fair_plan p s =
       let ls = (model_of p).links in
       let size = link_size_lem g p s in
-      let all : AllByRecursion (Joins g p.unit_count) ls = all_from_every (Joins g p.unit_count) ls (λ k d low high.
+      let joins : AllByRecursion (Joins g p.unit_count) ls = all_from_every (Joins g p.unit_count) ls (λ k d low high.
       let h : k < p.link_count = omega arith in
       subst (Joins g p.unit_count) (sym (get_or-take p.link_count p.links.now k d h)) (s.joins k d low h)) in
-      let t = total_values ls in
       let c = s.counted in
       let m = s.limited in
-      sound_within (kind_of g) (length (model_of p).codes) (links_of g (model_of p)) (subst (λ n. Ends n (links_of g (model_of p))) (sym (unit_size g p s)) (ends_values p.unit_count ls all)) (omega arith)
+      fair_links (model_of p) (subst (λ n. AllByRecursion (Joins g n) ls) (sym (unit_size g p s)) joins) (omega arith)
 
   module _ (laws : Laws g.zero g.plus g.le g.size) (bounded : (x : W) → g.size (g.value x) ≤ limit) (m : Model W) (sides : List ℕ) (fair : Fairly m) (marks : Marks g m sides) where
     abbrev units : ℕ

@@ -1,32 +1,26 @@
 -- An answer that follows the rules is right, and its marks may be kept.
-use Rattle.std.proofs.Common.{◌≡◌, ℕ, ◌<◌, ◌≤◌, Bool, true, false, cond, eqb, List, [], length, get_or, take, sym, refl, ap, ◌∙◌, subst, inr, arith}
+use Rattle.std.proofs.Common.{◌≡◌, ℕ, ◌<◌, ◌≤◌, Bool, true, eqb, List, [], length, get_or, take, sym, refl, ap, ◌∙◌, subst, inr, arith}
 use Rattle.std.proofs.lemmas.List.{get_or-take}
 use Rattle.std.proofs.lemmas.Bool.{both_ways}
-use Rattle.std.proofs.lemmas.Bool.Decides.{nat_tests}
 use Rattle.weights.specs.declared.weight.Weight.{Ghosts}
 use Rattle.weights.specs.Laws.{Laws}
 use Rattle.cuts.specs.Kinds.{kind_of, AtMost}
 use Rattle.cuts.specs.Links.{Link as Joint, Sound as Fair}
-use Rattle.cuts.specs.Divisions.{turned, weight_of, Weakest, Figure}
+use Rattle.cuts.specs.Divisions.{weight_of, Weakest, Figure}
 use Rattle.cuts.specs.Groups.{Joins, stands, group}
 use Rattle.cuts.specs.Claims.{LeastAt}
 use Rattle.cuts.proofs.Alike.{alike_same}
 use Rattle.cuts.proofs.Ends.{weight_below}
 use Rattle.cuts.proofs.Names.{named_none, group_division}
-use Rattle.cuts.proofs.Outcomes.{outcome_promised, weakest_below}
+use Rattle.cuts.proofs.Outcomes.{outcome_promised}
 use Rattle.plans.specs.Model.{Model}
 use Rattle.plans.specs.Divided.{links_of, side_of}
 use Rattle.runs.specs.Steps.{State, Answer, Worked, Remembered}
 use Rattle.runs.specs.Promise.{RightAnswer, AlikePlans}
 use Rattle.kept_plans.specs.Filed.{Marks}
+use Rattle.kept_plans.proofs.Keeping.{marks_alike}
+use Rattle.answers.proofs.Outcomes.{outcome_marks}
 use Rattle.kept_plans.proofs.Staying.{Fairly}
-
-mark_low : (b : Bool) → cond b 1 0 < 2
-mark_low true = omega arith
-mark_low false = omega arith
-
-mark_zero : (b : ℕ) → b < 2 → eqb b 1 ≡ false → b ≡ 0
-mark_zero b low e = grind (arith, nat_tests)
 
 module _ {W : Type 0} (g : Ghosts W) (laws : Laws g.zero g.plus g.le g.size) where
   -- at the start every unit is a group, and every division keeps the groups whole
@@ -46,28 +40,9 @@ module _ {W : Type 0} (g : Ghosts W) (laws : Laws g.zero g.plus g.le g.size) whe
     abbrev units : ℕ
     units = length m.codes
 
-    -- only the marks of units count
-    pub marks_below : (xs ys : List ℕ) → ((u : ℕ) → u < units → get_or xs u 0 ≡ get_or ys u 0) → Marks g m xs → Marks g m ys
-    marks_below xs ys e k =
-        let two = k.units in
-        record {
-          units = k.units;
-          bytes = λ u h. subst (λ b. b < 2) (e u h) (k.bytes u h);
-          first = sym (e 0 (omega arith)) ∙ k.first;
-          weakest = weakest_below (kind_of g) laws units (links_of g m) fair (side_of xs) (side_of ys) (λ u h. ap (λ b. eqb b 1) (e u h)) k.weakest;
-        }
-
     module _ (two : 2 ≤ length m.codes) (a : Answer W) (w : Worked g m a) where
       pub worked_marks : Marks g m a.marks
-      worked_marks =
-          let o = w.allowed in
-          let p = outcome_promised (kind_of g) laws units (links_of g m) fair two (g.value a.figure) a.marks a.entries a.scans o in
-          record {
-            units = two;
-            bytes = λ u h. subst (λ b. b < 2) (sym (o.marks_are u h)) (mark_low (turned o.end.best u));
-            first = mark_zero (get_or a.marks 0 0) (subst (λ b. b < 2) (sym (o.marks_are 0 (omega arith))) (mark_low (turned o.end.best 0))) p.unit_0;
-            weakest = p.weakest;
-          }
+      worked_marks = outcome_marks g laws m fair two (g.value a.figure) a.marks a.entries a.scans w.allowed
 
       pub worked_right : RightAnswer g m a
       worked_right =
@@ -94,7 +69,7 @@ module _ {W : Type 0} (g : Ghosts W) (laws : Laws g.zero g.plus g.le g.size) whe
       let ls = links_of g m in
       let two = k.units in
       let same : (u : ℕ) → u < n → get_or s.sides u 0 ≡ get_or a.marks u 0 = λ u h. sym (ap (λ xs. get_or xs u 0) r.marks ∙ get_or-take n s.sides u 0 h) in
-      let ms = marks_below m fair s.sides a.marks same k in
+      let ms = marks_alike g laws m fair s.sides a.marks same k in
       let weighs : weight_of K ls (side_of a.marks) ≡ g.value a.figure = sym (weight_below K laws n ls fair (side_of s.sides) (side_of a.marks) (λ u h. ap (λ b. eqb b 1) (same u h))) ∙ sym r.figure in
       let start : LeastAt K n ls [] (g.value a.figure) = subst (LeastAt K n ls []) weighs (start_least n ls (side_of a.marks) two ms.weakest) in
       let none = ap length r.entries in

@@ -1,14 +1,10 @@
 -- Plans within their limits, over which no sum is refused; every edit leaves them so.
-use Rattle.std.proofs.Common.{◌≡◌, ℕ, ◌+◌, ◌<◌, ◌≤◌, Bool, true, List, [], ◌∷◌, ◌++◌, map, length, sym, refl, ap, ◌∙◌, subst, arith, length-set}
+use Rattle.std.proofs.Common.{◌≡◌, ℕ, ◌+◌, ◌<◌, ◌≤◌, Bool, true, List, [], ◌∷◌, ◌++◌, length, sym, ap, ◌∙◌, subst, arith, length-set}
 use Rattle.std.specs.List.{remove, AllByRecursion}
 use Rattle.std.proofs.ByRecursion.{All-append, All-push, All-weaker}
 use Rattle.std.proofs.lemmas.List.{length_push}
 use Rattle.std.proofs.lemmas.Bool.Decides.{nat_tests}
 use Rattle.weights.specs.declared.weight.Weight.{Ghosts}
-use Rattle.cuts.specs.Kinds.{kind_of}
-use Rattle.cuts.specs.Links.{Ends, total}
-use Rattle.cuts.proofs.Facts.{sound_within}
-use Rattle.plans.specs.Divided.{valued, links_of}
 use Rattle.plans.specs.declared.plan.Link.{Link}
 use Rattle.plans.specs.Calls.{accepted, link_verdict, strike_verdict, reweigh_verdict, mark_verdict, most_total}
 use Rattle.plans.specs.Model.{Model, amount_of, total_of, changed, entered, recoded, linked, struck, reweighed, marked}
@@ -16,7 +12,7 @@ use Rattle.plans.specs.Sound.{Joins}
 use Rattle.plans.proofs.Totals.{total_append}
 use Rattle.runs.specs.Steps.{opened}
 use Rattle.kept_plans.proofs.Parting.{Parted, parted}
-use Rattle.kept_plans.proofs.Staying.{Fairly}
+use Rattle.kept_plans.proofs.Staying.{Fairly, fair_links}
 
 -- what holds of the parts of a list
 all_front : {X : Type 0} (P : X → Type 0) (xs ys : List X) → AllByRecursion P (xs ++ ys) → AllByRecursion P xs
@@ -42,26 +38,13 @@ module _ {W : Type 0} (g : Ghosts W) (m : Model W) where
   link_there a b w e = (grind (arith, nat_tests), grind (arith, nat_tests), grind (arith, nat_tests), grind (arith, nat_tests), grind (arith, nat_tests))
 
 module _ {W : Type 0} (g : Ghosts W) where
-  total_values : (ls : List (Link W)) → total (kind_of g) (map (valued g) ls) ≡ total_of g ls
-  unfolding total
-  total_values [] = refl
-  total_values (l ∷ ls) = ap (λ n. g.size (g.value l.weight) + n) (total_values ls)
-
-  ends_values : (n : ℕ) (ls : List (Link W)) → AllByRecursion (Joins g n) ls → Ends n (map (valued g) ls)
-  unfolding Ends
-  ends_values n [] a = tt
-  ends_values n (l ∷ ls) a = (a.0.first, a.0.second, ends_values n ls a.1)
-
   -- the links join units of the plan, and their amounts keep the limit
   pub record Within (m : Model W) : Type 0 where
     pub joins : AllByRecursion (Joins g (length m.codes)) m.links
     pub limited : total_of g m.links ≤ most_total
 
   pub fair_within : (m : Model W) → Within m → Fairly g m
-  fair_within m w =
-      let t = total_values m.links in
-      let l = w.limited in
-      sound_within (kind_of g) (length m.codes) (links_of g m) (ends_values (length m.codes) m.links w.joins) (omega arith)
+  fair_within m w = fair_links g m w.joins w.limited
 
 module _ {W : Type 0} (g : Ghosts W) where
   pub opened_within : Within g opened

@@ -1,10 +1,10 @@
 -- A run keeps its promise: one induction over its turns, which carries that the plan is within its limits and that kept marks
 -- are those of a weakest division.
-use Rattle.std.proofs.Common.{◌≡◌, ℕ, ◌^◌, ◌<◌, ◌≤◌, Bool, true, false, ◌&&◌, eqb, List, [], ◌∷◌, length, get_or, Some, None, vec_items, Option, sym, refl, ap, ◌∙◌, subst, inl, inr, ⊎_elim, arith}
+use Rattle.std.proofs.Common.{◌≡◌, ℕ, ◌^◌, ◌<◌, ◌≤◌, Bool, true, false, eqb, List, [], ◌∷◌, length, get_or, Some, None, vec_items, Option, sym, refl, ap, ◌∙◌, subst, inl, inr, ⊎_elim, arith}
 use Rattle.std.specs.List.{AllByRecursion}
 use Rattle.std.proofs.ByRecursion.{all-has, All-weaker}
 use Rattle.std.proofs.lemmas.List.{get_or-take}
-use Rattle.std.proofs.lemmas.Bool.{both_ways}
+use Rattle.std.proofs.lemmas.Bool.{and_parts, false≢true}
 use Rattle.std.proofs.lemmas.Bool.Decides.{nat_tests}
 use Rattle.refusals.specs.declared.Refusal.{Refusal}
 use Rattle.weights.specs.declared.weight.Weight.{Ghosts}
@@ -21,36 +21,24 @@ use Rattle.runs.specs.declared.call.Call.TheVariants as call
 use Rattle.runs.specs.declared.reply.Reply.{Reply}
 use Rattle.runs.specs.declared.reply.Reply.TheVariants as reply
 use Rattle.kept_plans.specs.Filed.{Marks}
+use Rattle.kept_plans.proofs.Keeping.{marks_alike}
 use Rattle.kept_plans.proofs.Staying.{Fairly, recoded_stays, linked_stays, struck_stays, marked_stays, reweighed_stays}
 use Rattle.runs.proofs.Limits.{Within, fair_within, opened_within, entered_within, recoded_within, linked_within, struck_within, marked_within, reweighed_within, two_units, strike_there, mark_there, reweigh_there}
 use Rattle.runs.proofs.Leading.{led, led_one}
-use Rattle.runs.proofs.Answering.{marks_below, worked_marks, worked_right, remembered_right, same_figure}
-
-nothing : {A : Type 0} {w : A} → None ≡ Some w → ⊥
-nothing e = let z : ◌≡◌ {A = ℕ} 0 1 = cc in omega arith
-
-held : {A : Type 0} {v w : A} → Some v ≡ Some w → v ≡ w
-held e = cc
-
-false_true : {P : Type 0} → false ≡ true → P
-false_true e = absurd (both_ways false refl e)
-
-both_true : (a b : Bool) → (a && b) ≡ true → (a ≡ true) × (b ≡ true)
-both_true true b e = (refl, e)
-both_true false b e = false_true e
+use Rattle.runs.proofs.Answering.{worked_marks, worked_right, remembered_right, same_figure}
 
 -- replies that are no answers
 
 module _ {W : Type 0} where
   not_both : (r : Reply W) (bs : List ℕ) (a : Answer W) → bytes_of r ≡ Some bs → answer_of r ≡ Some a → ⊥
-  not_both (reply.Entered k) bs a b s = nothing s
-  not_both (reply.Linked k) bs a b s = nothing s
-  not_both reply.Done bs a b s = nothing s
-  not_both (reply.Weighed w) bs a b s = nothing s
-  not_both (reply.Written v) bs a b s = nothing s
-  not_both (reply.Answered w v es n k) bs a b s = nothing b
-  not_both (reply.Refused e) bs a b s = nothing s
-  not_both (reply.Faulty e) bs a b s = nothing s
+  not_both (reply.Entered k) bs a b s = cc
+  not_both (reply.Linked k) bs a b s = cc
+  not_both reply.Done bs a b s = cc
+  not_both (reply.Weighed w) bs a b s = cc
+  not_both (reply.Written v) bs a b s = cc
+  not_both (reply.Answered w v es n k) bs a b s = cc
+  not_both (reply.Refused e) bs a b s = cc
+  not_both (reply.Faulty e) bs a b s = cc
 
   two_of_weakest : (m : Model W) (i j k : ℕ) → weakest_verdict m i j k ≡ None → 2 ≤ length m.codes
   two_of_weakest m i j k e = grind (arith, nat_tests)
@@ -60,16 +48,16 @@ module _ {W : Type 0} where
 
 module _ {W : Type 0} (g : Ghosts W) where
   no_edit : (v : Option Refusal) (q : Reply W) (next : Model W) (stay : Bool) (s t : State W) (r : Reply W) (a : Answer W) → Edits g v q next stay s r t → answer_of q ≡ None → answer_of r ≡ Some a → ⊥
-  no_edit None q next stay s t r a e n is = nothing (sym n ∙ sym (ap answer_of e.replied) ∙ is)
-  no_edit (Some x) q next stay s t r a e n is = nothing (sym (ap answer_of e.replied) ∙ is)
+  no_edit None q next stay s t r a e n is = let told = ap answer_of e.replied in cc
+  no_edit (Some x) q next stay s t r a e n is = let told = ap answer_of e.replied in cc
 
   no_question : (v : Option Refusal) (P : Reply W → Type 0) (r : Reply W) (a : Answer W) → Judged v P r → (P r → answer_of r ≡ Some a → ⊥) → answer_of r ≡ Some a → ⊥
   no_question None P r a j n is = n j is
-  no_question (Some x) P r a j n is = nothing (sym (ap answer_of j) ∙ is)
+  no_question (Some x) P r a j n is = let told = ap answer_of j in cc
 
   answer_here : (v : Option Refusal) (P : Answer W → State W → Type 0) (s t : State W) (r : Reply W) → Answers g v P s r t → (a : Answer W) → answer_of r ≡ Some a → (v ≡ None) × P a t
-  answer_here None P s t r h a e = (refl, subst (λ b. P b t) (held (sym h.1 ∙ e)) h.2)
-  answer_here (Some x) P s t r h a e = absurd (nothing (sym (ap answer_of h.0) ∙ e))
+  answer_here None P s t r h a e = (refl, subst (λ b. P b t) (cc (sym h.1 ∙ e)) h.2)
+  answer_here (Some x) P s t r h a e = let told = ap answer_of h.0 in cc
 
   judged : (v : Option Refusal) (P : Answer W → State W → Type 0) (Q : Answer W → Type 0) (s t : State W) (r : Reply W) → ((a : Answer W) → P a t → Q a) → Answers g v P s r t → Judged v (Answered g Q) r
   judged None P Q s t r f h = (h.0, h.1, f h.0 h.2)
@@ -100,11 +88,11 @@ module _ {W : Type 0} (g : Ghosts W) where
       current : s.kept ≡ true → Marks g s.plan s.sides
 
     start_holds : (s : State W) → Opened s → Holds s
-    start_holds s o = record { within = subst (Within g) (sym o.0) (opened_within g); current = λ k. false_true (sym o.1 ∙ k) }
+    start_holds s o = record { within = subst (Within g) (sym o.0) (opened_within g); current = λ k. absurd (false≢true (sym o.1 ∙ k)) }
 
     edit_holds : (v : Option Refusal) (q : Reply W) (next : Model W) (stay : Bool) (s t : State W) (r : Reply W) → Holds s → (v ≡ None → Within g next) → (v ≡ None → Marks g s.plan s.sides → stay ≡ true → Marks g next s.sides) → Edits g v q next stay s r t → Holds t
     edit_holds None q next stay s t r h w k e =
-        subst Holds (sym e.left) (record { within = w refl; current = λ both. let p = both_true s.kept stay both in k refl (h.current p.0) p.1 })
+        subst Holds (sym e.left) (record { within = w refl; current = λ both. let p = and_parts s.kept stay both in k refl (h.current p.0) p.1 })
     edit_holds (Some x) q next stay s t r h w k e = subst Holds (sym e.left) h
 
     answer_holds : (v : Option Refusal) (P : Answer W → State W → Type 0) (s t : State W) (r : Reply W) → Holds s → (v ≡ None → (a : Answer W) → P a t → Holds t) → Answers g v P s r t → Holds t
@@ -117,11 +105,11 @@ module _ {W : Type 0} (g : Ghosts W) where
         let m = s.plan in
         let fair = fair_within g m h.within in
         let same : (u : ℕ) → u < length m.codes → get_or a.marks u 0 ≡ get_or t.sides u 0 = λ u low. sym (ap (λ xs. get_or xs u 0) f.sides) ∙ get_or-take (length m.codes) t.sides u 0 low in
-        let marks : Marks g m t.sides = marks_below g laws m fair a.marks t.sides same (worked_marks g laws m fair two a f.worked) in
+        let marks : Marks g m t.sides = marks_alike g laws m fair a.marks t.sides same (worked_marks g laws m fair two a f.worked) in
         record { within = subst (Within g) (sym f.plan) h.within; current = λ k. subst (λ o. Marks g o t.sides) (sym f.plan) marks }
 
     step_holds : (c : Call W) (r : Reply W) (s t : State W) → Holds s → Step g s c r t → Holds t
-    step_holds (call.Enter v) r s t h e = edit_holds _ _ _ _ s t r h (λ ok. entered_within g s.plan h.within (vec_items v)) (λ ok k stay. false_true stay) e
+    step_holds (call.Enter v) r s t h e = edit_holds _ _ _ _ s t r h (λ ok. entered_within g s.plan h.within (vec_items v)) (λ ok k stay. absurd (false≢true stay)) e
     step_holds (call.Recode k v) r s t h e = edit_holds _ _ _ _ s t r h (λ ok. recoded_within g s.plan h.within k (vec_items v)) (λ ok marks stay. recoded_stays g laws bounded s.plan s.sides (fair_within g s.plan h.within) marks k (vec_items v)) e
     step_holds (call.Link a b w) r s t h e =
         let m = s.plan in
@@ -144,7 +132,7 @@ module _ {W : Type 0} (g : Ghosts W) where
     step_holds (call.Weigh v) r s t h e = subst Holds (sym e.left) h
     step_holds (call.Read v) r s t h e =
         ⊎_elim
-        (λ (x : Takes g (vec_items v) r t). record { within = record { joins = x.sheet.1.joins; limited = x.sheet.1.limited }; current = λ k. false_true (sym x.none ∙ k) })
+        (λ (x : Takes g (vec_items v) r t). record { within = record { joins = x.sheet.1.joins; limited = x.sheet.1.limited }; current = λ k. absurd (false≢true (sym x.none ∙ k)) })
         (λ (x : Faults g (vec_items v) s r t). subst Holds (sym x.left) h) e
     step_holds (call.Write issue room) r s t h e = subst Holds (sym e.left) h
     step_holds (call.Weakest l) r s t h e =
@@ -168,11 +156,11 @@ module _ {W : Type 0} (g : Ghosts W) where
     step_fine (call.Strike k) r s t h e a is = absurd (no_edit _ _ _ _ s t r a e refl is)
     step_fine (call.Reweigh k w) r s t h e a is = absurd (no_edit _ _ _ _ s t r a e refl is)
     step_fine (call.Mark k b) r s t h e a is = absurd (no_edit _ _ _ _ s t r a e refl is)
-    step_fine (call.Weigh v) r s t h e a is = absurd (no_question (weigh_verdict s.plan (vec_items v)) (Weighs g (weighed g s.plan (vec_items v))) r a e.replied (λ w i. nothing (sym (ap answer_of w.1) ∙ i)) is)
+    step_fine (call.Weigh v) r s t h e a is = absurd (no_question (weigh_verdict s.plan (vec_items v)) (Weighs g (weighed g s.plan (vec_items v))) r a e.replied (λ w i. let told = ap answer_of w.1 in cc) is)
     step_fine (call.Read v) r s t h e a is =
         ⊎_elim
-        (λ (x : Takes g (vec_items v) r t). absurd (nothing (sym (ap answer_of x.replied) ∙ is)))
-        (λ (x : Faults g (vec_items v) s r t). absurd (nothing (sym (ap answer_of x.replied) ∙ is))) e
+        (λ (x : Takes g (vec_items v) r t). let told = ap answer_of x.replied in cc)
+        (λ (x : Faults g (vec_items v) s r t). let told = ap answer_of x.replied in cc) e
     step_fine (call.Write issue room) r s t h e a is = absurd (no_question (write_verdict g s.plan issue room) (λ q. bytes_of q ≡ Some (sheet_in g s.plan issue)) r a e.replied (λ b i. not_both r (sheet_in g s.plan issue) a b i) is)
     step_fine (call.Weakest l) r s t h e a is =
         let m = s.plan in
