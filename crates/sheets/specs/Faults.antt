@@ -1,5 +1,5 @@
 -- What is wrong with a field, and the first fault of a sheet in the order of its bytes.
-use Rattle.std.specs.Prelude.{◌≡◌, ℕ, ◌+◌, not, ◌||◌, List, ◌∷◌, ◌++◌, length, Some, None, Option, ◌==◌, nat_le, nat_lt}
+use Rattle.std.specs.Prelude.{◌≡◌, ℕ, ◌+◌, not, ◌||◌, List, ◌∷◌, ◌++◌, length, Some, None, Ok, Err, Option, Result, ◌==◌, nat_le, nat_lt}
 use Rattle.std.specs.List.{AllByRecursion}
 use Rattle.refusals.specs.declared.Refusal.{Refusal}
 use Rattle.refusals.specs.declared.Refusal.TheVariants.{NotASheet, UnknownIssue, OtherKind, Truncated, TrailingBytes, Full, NotACode, CodeTaken, NoSuchUnit, SelfLink, NoWeight, OverLimit, BadMark}
@@ -10,8 +10,10 @@ use Rattle.plans.specs.Calls.{check, accepted, most_units, most_links, most_tota
 use Rattle.plans.specs.Model.{same_text, borne_by_other}
 use Rattle.sheets.specs.declared.fault.Fault.{Fault}
 use Rattle.sheets.specs.declared.fault.Part.{Part}
+use Rattle.sheets.specs.declared.issue.Issue.{Issue}
 use Rattle.sheets.specs.Format as format
-use Rattle.sheets.specs.Fields.{Field, magic, issue, kind, units, links, code, first, second, mark, number, weight, end, byte_at, two_at, bytes_at, units_in, links_in, text_in, texts_in, link_place, amount_in, total_in, part_of, place_of, size_of, fields}
+use Rattle.sheets.specs.Format.{issue_number}
+use Rattle.sheets.specs.Fields.{Field, issue_from, magic, issue, kind, units, links, code, first, second, mark, number, weight, end, byte_at, two_at, bytes_at, units_in, links_in, text_in, texts_in, link_place, amount_in, total_in, part_of, place_of, size_of, fields}
 
 -- a refusal as a fault at a place, in a part of the sheet
 abbrev pub fault_with : ℕ → Part → Option Refusal → Option Fault
@@ -29,6 +31,11 @@ magic_verdict field = check (same_text field format.magic) NotASheet accepted
 -- the verdict on the issue: 2
 abbrev pub issue_verdict : ℕ → Option Refusal
 issue_verdict n = check (n == 1 || n == 2) UnknownIssue accepted
+
+-- the issue with a number, or what its number is refused with
+abbrev pub Named : ℕ → Result Issue Refusal → Type 0
+Named n (Ok i) = (issue_verdict n ≡ accepted) × (issue_number i ≡ n) × (i ≡ issue_from n)
+Named n (Err e) = issue_verdict n ≡ Some e
 
 -- the verdict on the characters of unit k's code, after the codes of the units before it: 7, 8
 abbrev pub code_verdict : ℕ → List ℕ → List (List ℕ) → Option Refusal

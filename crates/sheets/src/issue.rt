@@ -1,9 +1,12 @@
 // The two issues of the format.
 ghost use Rattle.std.specs.Prelude.{◌≡◌};
 ghost use Rattle.sheets.specs.Format.{size_of_code, issue_number};
+ghost use Rattle.sheets.specs.Faults.{Named};
+
+use refusals::Refusal;
 
 // The issue, by which codes have six or seven bytes.
-#[derive(Clone, Copy)]
+#[derive(Clone, Copy, PartialEq, Eq, Debug)]
 pub enum Issue {
     First = 1,
     Second = 2,
@@ -24,6 +27,29 @@ impl Issue {
         match self {
             Issue::First => 6,
             Issue::Second => 7,
+        }
+    }
+}
+
+impl From<Issue> for u16 {
+    ghost from_gives = { λ issue number. number ≡ issue_number issue };
+
+    fn from(issue: Issue) -> u16 {
+        issue.number()
+    }
+}
+
+// The issue with a number: 2 if there is none.
+impl TryFrom<u16> for Issue {
+    type Error = Refusal;
+
+    ghost try_from_gives = { Named };
+
+    fn try_from(number: u16) -> Result<Issue, Refusal> {
+        match number {
+            1 => Ok(Issue::First),
+            2 => Ok(Issue::Second),
+            _ => Err(Refusal::UnknownIssue),
         }
     }
 }

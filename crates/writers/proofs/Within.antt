@@ -1,8 +1,8 @@
 -- A sound plan whose codes fit the issue is within the rules of a sheet, and how long its sheet is.
-use Rattle.std.proofs.Common.{◌≡◌, ℕ, ◌+◌, ◌*◌, ◌<◌, ◌≤◌, true, false, ◌||◌, eqb, List, [], ◌∷◌, map, length, get_or, take, drop, sym, ap, ◌∙◌, subst, ⊎_elim, suc-mul, arith}
-use Rattle.std.specs.List.{AllWithin, flat_map, AllByRecursion}
+use Rattle.std.proofs.Common.{◌≡◌, ℕ, ◌+◌, ◌*◌, ◌<◌, ◌≤◌, true, false, ◌||◌, eqb, List, [], ◌∷◌, map, length, get_or, take, sym, refl, ap, ◌∙◌, subst, ⊎_elim, suc-mul, arith}
+use Rattle.std.specs.List.{list_any, AllWithin, flat_map, AllByRecursion}
 use Rattle.std.proofs.ByRecursion.{all_from_every}
-use Rattle.std.proofs.lemmas.List.{length-append, length_push, get_or-take, at_drop_more}
+use Rattle.std.proofs.lemmas.List.{length-append, length_push, get_or-take}
 use Rattle.std.proofs.lemmas.Bool.{or_parts, eqb-false}
 use Rattle.weights.specs.declared.weight.Weight.{Ghosts}
 use Rattle.codes.specs.Code.{is_code}
@@ -37,9 +37,10 @@ pub fit_second : (texts : List (List ℕ)) → AllByRecursion (λ text. is_code 
 fit_second [] codes = tt
 fit_second (t ∷ ts) codes = (⊎_elim (λ a. omega arith) (λ b. omega arith) (code_length t codes.0), fit_second ts codes.1)
 
--- the search for a long code, at unit i
-pub long_step : (us : List Unit) (i : ℕ) (d : Unit) → i < length us → has_long_code (map code_of (drop i us)) ≡ (eqb (length (code_of (get_or us i d))) 7 || has_long_code (map code_of (drop (i + 1) us)))
-long_step us i d h = at_drop_more (λ xs. has_long_code (map code_of xs)) us i d h
+-- the search for a long code goes through the units
+pub long_in : (us : List Unit) → list_any (λ u. eqb (length (code_of u)) 7) us ≡ has_long_code (map code_of us)
+long_in [] = refl
+long_in (u ∷ us) = ap (λ b. eqb (length (code_of u)) 7 || b) (long_in us)
 
 length_field : (issue : Issue) (text : List ℕ) → is_code text ≡ true → length text ≤ size_of_code issue → length (code_field issue text) ≡ size_of_code issue
 length_field First text e h = ⊎_elim (λ a. a) (λ b. absurd (omega arith)) (code_length text e)

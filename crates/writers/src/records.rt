@@ -6,14 +6,12 @@ ghost use Rattle.sheets.specs.Format.{code_field, size_of_code, fours, bytes_of_
 ghost use Rattle.std.specs.List.{flat_map};
 ghost use Rattle.writers.specs.Fields.{Put, Room};
 
-use crate::fields::{put_byte, put_bytes, put_four, put_two};
+use crate::fields::{put_byte, put_bytes};
 use codes::code::FaultCode;
 use plans::plan::{Link, Unit};
+use sheets::head::MAGIC;
 use sheets::issue::Issue;
 use weights::weight::Weight;
-
-// The first three bytes of every sheet.
-const MAGIC: [u8; 3] = *b"HNW";
 
 // The head: issue, kind, and how many units and links follow.
 pub(crate) fn put_head<W: Weight>(out: &mut [u8], issue: Issue, units: u8, links: u16) -> usize
@@ -21,10 +19,10 @@ pub(crate) fn put_head<W: Weight>(out: &mut [u8], issue: Issue, units: u8, links
     ensures { Put out.old 0 (bytes_of_head W.Weight issue units links) result out.new }
 {
     let at = put_bytes(out, 0, &MAGIC);
-    let at = put_two(out, at, issue.number());
+    let at = put_bytes(out, at, &issue.number().to_le_bytes());
     let at = put_byte(out, at, W::kind_byte());
     let at = put_byte(out, at, units);
-    put_two(out, at, links)
+    put_bytes(out, at, &links.to_le_bytes())
 }
 
 // Whether a zero byte closes the field of a code.
@@ -52,8 +50,8 @@ pub(crate) fn put_codes(out: &mut [u8], at: usize, issue: Issue, units: &[Unit])
     ensures { Put out.old at (flat_map (code_field issue) (map code_of units.now)) result out.new }
 {
     let mut next = at;
-    for k in 0..units.len() {
-        next = put_code(out, next, issue, units[k].code);
+    for unit in units {
+        next = put_code(out, next, issue, unit.code);
     }
     next
 }
@@ -65,7 +63,7 @@ fn put_weight<W: Weight>(out: &mut [u8], at: usize, weight: W) -> usize
 {
     let mut next = at;
     for i in 0..W::part_count() {
-        next = put_four(out, next, weight.part(i));
+        next = put_bytes(out, next, &weight.part(i).to_le_bytes());
     }
     next
 }
@@ -94,8 +92,8 @@ pub(crate) fn put_links<W: Weight>(out: &mut [u8], at: usize, links: &[Link<W>])
     ensures { Put out.old at (flat_map (link_bytes W.Weight) links.now) result out.new }
 {
     let mut next = at;
-    for k in 0..links.len() {
-        next = put_link(out, next, links[k]);
+    for link in links {
+        next = put_link(out, next, *link);
     }
     next
 }

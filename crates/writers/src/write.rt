@@ -1,5 +1,7 @@
 // Writes the whole sheet of a plan.
-ghost use Rattle.std.specs.Prelude.{◌≡◌, map, length, MatchResult};
+ghost use Rattle.std.specs.List.{list_any};
+ghost use Rattle.codes.specs.Held.{bytes_of};
+ghost use Rattle.std.specs.Prelude.{◌≡◌, ◌==◌, map, length, MatchResult};
 ghost use Rattle.plans.specs.Model.{code_of, model_of};
 ghost use Rattle.plans.specs.Sound.{Sound};
 ghost use Rattle.sheets.specs.Format.{Valid, sheet_of};
@@ -14,14 +16,9 @@ use weights::weight::Weight;
 
 // Whether a code has seven characters.
 fn any_long(units: &[Unit]) -> bool
-    ensures { result ≡ has_long_code (map code_of units.now) }
+    ensures { result ≡ list_any (λ u. length (bytes_of u.code) == 7) units.now }
 {
-    for k in 0..units.len() {
-        if units[k].code.is_long() {
-            return true;
-        }
-    }
-    false
+    units.iter().any(|unit| unit.code.is_long())
 }
 
 // The issue with a number: 2 if there is none, 16 if a code of the plan does not fit it.
@@ -29,16 +26,11 @@ fn issue_for<W: Weight>(plan: &Plan<W>, number: u16) -> Result<Issue, Refusal>
     requires { Sound W.Weight plan.now }
     ensures { MatchResult result (Fitting W.Weight (model_of plan.now) number) (Refusing W.Weight (model_of plan.now) number) }
 {
-    match number {
-        1 => {
-            if any_long(plan.units()) {
-                return Err(Refusal::LongCode);
-            }
-            Ok(Issue::First)
-        }
-        2 => Ok(Issue::Second),
-        _ => Err(Refusal::UnknownIssue),
+    let issue = Issue::try_from(number)?;
+    if issue == Issue::First && any_long(plan.units()) {
+        return Err(Refusal::LongCode);
     }
+    Ok(issue)
 }
 
 // How many bytes the sheet has: nine in the head, a field for each code, and for each link two ends, a mark and its parts.

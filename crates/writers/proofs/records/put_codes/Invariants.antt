@@ -5,5 +5,5 @@ use Rattle.sheets.specs.Format.{code_field}
 use Rattle.writers.specs.Fields.{Put}
 use Rattle.writers.proofs.records.put_codes.Given as goal
 
-abbrev pub invariant-loop-k : goal.invariant-loop-k
-invariant-loop-k l = Put l.initial.out l.at (flat_map (λ u. code_field l.issue (code_of u)) (take l.k l.units)) l.next l.out
+abbrev pub invariant-loop-unit : goal.invariant-loop-unit
+invariant-loop-unit l = Put l.initial.out l.at (flat_map (λ u. code_field l.issue (code_of u)) (take l.unit-index l.units)) l.next l.out

@@ -7,13 +7,13 @@ use Rattle.writers.proofs.records.put_links.Goals as goal
 
 pub put_link-next-requires : goal.put_link-next-requires
 put_link-next-requires g c =
-    let room = room_next (link_bytes g.W.Weight) c.args.links.now c.loop-k.k c.loop-k.invariant c.index-links-k.result c.loop-k-test.true c.loop-k.auto.out c.requires in
-    subst (λ l. Room c.loop-k.out c.loop-k.next (link_bytes g.W.Weight l)) (sym c.index-links-k.is) room
+    let room = room_next (link_bytes g.W.Weight) c.args.links.now c.loop-link.link-index c.loop-link.invariant c.link-item.result c.loop-link-test.true c.loop-link.auto.out c.requires in
+    subst (λ l. Room c.loop-link.out c.loop-link.next (link_bytes g.W.Weight l)) (sym c.link-item.is) room
 
-pub loop-k-preserved : goal.loop-k-preserved
-loop-k-preserved g c =
-    let link = put_same (ap (link_bytes g.W.Weight) c.index-links-k.is) c.put_link-next.ensures in
-    put_next (link_bytes g.W.Weight) c.args.links.now c.loop-k.k c.loop-k.invariant c.index-links-k.result c.loop-k-test.true link
+pub loop-link-preserved : goal.loop-link-preserved
+loop-link-preserved g c =
+    let link = put_same (ap (link_bytes g.W.Weight) c.link-item.is) c.put_link-next.ensures in
+    put_next (link_bytes g.W.Weight) c.args.links.now c.loop-link.link-index c.loop-link.invariant c.link-item.result c.loop-link-test.true link
 
 pub returns : goal.returns
-returns g c = put_all (link_bytes g.W.Weight) c.args.links.now c.loop-k.k c.loop-k.invariant c.loop-k-test.false
+returns g c = put_all (link_bytes g.W.Weight) c.args.links.now c.loop-link.link-index c.loop-link.invariant c.loop-link-test.false

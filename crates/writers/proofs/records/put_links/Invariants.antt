@@ -4,5 +4,5 @@ use Rattle.sheets.specs.Format.{link_bytes}
 use Rattle.writers.specs.Fields.{Put}
 use Rattle.writers.proofs.records.put_links.Given as goal
 
-abbrev pub invariant-loop-k : goal.invariant-loop-k
-invariant-loop-k g l = Put l.initial.out l.at (flat_map (link_bytes g.W.Weight) (take l.k l.links)) l.next l.out
+abbrev pub invariant-loop-link : goal.invariant-loop-link
+invariant-loop-link g l = Put l.initial.out l.at (flat_map (link_bytes g.W.Weight) (take l.link-index l.links)) l.next l.out
