@@ -1,5 +1,5 @@
 -- Going through the links of a sheet.
-use Rattle.std.proofs.Common.{◌≡◌, ℕ, ◌+◌, ◌≤◌, leb, List, [], ◌∷◌, ◌++◌, length, None, Ok, Err, Result, sym, ap, ◌∙◌, subst, add-zero, add-one, arith}
+use Rattle.std.proofs.Common.{◌≡◌, ℕ, ◌+◌, ◌≤◌, leb, List, [], ◌∷◌, ◌++◌, length, None, Ok, Err, Result, sym, refl, ap, ◌∙◌, subst, add-zero, add-one, arith}
 use Rattle.std.proofs.ByRecursion.{All-append}
 use Rattle.refusals.specs.declared.Refusal.TheVariants.{TrailingBytes}
 use Rattle.weights.specs.declared.weight.Weight.{Ghosts}
@@ -43,14 +43,14 @@ module _ {W : Type 0} (g : Ghosts W) (bs : List ℕ) where
   unfolding fault_of
   ended c a (Ok x) total was t =
       let p = link_place g bs (links_in bs) in
-      let v = at_place (λ y q. check (leb (length y) q) TrailingBytes accepted) (λ y q _. q ≡ length y) part.End 0 (Ok x) c a bs p was.stands t in
+      let v = at_place (λ y q. check (leb (length y) q) TrailingBytes accepted) (λ y q _. q ≡ length y) part.End 0 (Ok x) c a bs p part.End was.stands refl t in
       record {
         taken = (All-append (λ f. fault_of g bs f ≡ None) (through (link_fields g bs) (links_in bs)) (end ∷ []) was.clear (v.0.0, tt), v.0.1);
         moved = subst (λ n. Stands bs n a) (add-zero p ∙ v.0.1) v.1;
       }
   ended c a (Err e) total was t =
       let p = link_place g bs (links_in bs) in
-      let v = at_place (λ y q. check (leb (length y) q) TrailingBytes accepted) (λ y q _. q ≡ length y) part.End 0 (Err e) c a bs p was.stands t in
+      let v = at_place (λ y q. check (leb (length y) q) TrailingBytes accepted) (λ y q _. q ≡ length y) part.End 0 (Err e) c a bs p part.End was.stands refl t in
       record {
         taken = in_right g bs (through (link_fields g bs) (links_in bs)) (end ∷ []) e was.clear (in_one g bs end e v.0);
         moved = tt;

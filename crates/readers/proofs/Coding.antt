@@ -40,7 +40,7 @@ module _ {W : Type 0} (g : Ghosts W) (bs : List ℕ) where
       let F : Issue → List (List ℕ) → Type 0 = λ j xs. Took b (part.Unit k) (size_of_code j) (code_verdict k (text_of j (bytes_at b.bytes.now b.at (size_of_code j))) xs) r a (λ c. bytes_of c ≡ text_of j (bytes_at b.bytes.now b.at (size_of_code j))) in
       let j = issue_in bs in
       let u = subst (λ xs. F j xs) h (subst (λ x. F x earlier) e t) in
-      let v = at_place (λ x q. code_verdict k (text_of j (bytes_at x q (size_of_code j))) (texts_in bs k)) (λ x q c. bytes_of c ≡ text_of j (bytes_at x q (size_of_code j))) (part.Unit k) (size_of_code j) r b a bs (code_place bs k) s u in
+      let v = at_place (λ x q. code_verdict k (text_of j (bytes_at x q (size_of_code j))) (texts_in bs k)) (λ x q c. bytes_of c ≡ text_of j (bytes_at x q (size_of_code j))) (part.Unit k) (size_of_code j) r b a bs (code_place bs k) (part.Unit k) s refl u in
       subst (λ n. One g bs (code k) n r a (λ c. bytes_of c ≡ text_in bs k)) (next_code bs k) v
 
   pub coding_none : (c : Cursor) (us : List Record) → c.bytes.now ≡ bs → c.at ≡ 9 → Coding g bs 0 c us

@@ -2,14 +2,15 @@
 use Rattle.std.proofs.Common.{◌≡◌, ℕ, ◌+◌, ◌*◌, ◌<◌, ◌≤◌, Bool, cond, ltb, List, [], ◌∷◌, ◌++◌, length, Result, sym, ap, ◌∙◌, subst, add-mul, one-mul, zero-mul, arith}
 use Rattle.refusals.specs.declared.Refusal.TheVariants.{BadMark}
 use Rattle.weights.specs.declared.weight.Weight.{Ghosts}
+use Rattle.plans.specs.declared.plan.Link.{Link}
 use Rattle.plans.specs.Calls.{accepted, check}
 use Rattle.sheets.specs.declared.fault.Fault.{Fault}
 use Rattle.sheets.specs.declared.fault.Part.TheVariants as part
-use Rattle.sheets.specs.Fields.{first, second, mark, byte_at, bytes_at, code_place, units_in, link_place, number_place}
+use Rattle.sheets.specs.Fields.{first, second, mark, weight, byte_at, bytes_at, code_place, units_in, link_fields, link_place, number_fields, number_place, total_in}
 use Rattle.sheets.specs.Faults.{fault_of, end_verdict, other_verdict}
 use Rattle.sheets.specs.Format.{link_size, fours}
 use Rattle.readers.specs.declared.cursor.Cursor.{Cursor}
-use Rattle.readers.specs.Records.{Linked, Weighed}
+use Rattle.readers.specs.Records.{Linked, Reads, Weighed}
 use Rattle.readers.specs.Steps.{Stands, Took}
 use Rattle.readers.proofs.Heads.{One}
 use Rattle.readers.proofs.Pieces.{at_place, bytes_join, byte_alone}
@@ -25,35 +26,35 @@ module _ {W : Type 0} (g : Ghosts W) (bs : List ℕ) where
   numbers_start k = omega arith
 
   module _ (k : ℕ) (b a : Cursor) where
-    pub first_read : (n : ℕ) (r : Result ℕ Fault) → Stands bs (link_place g bs k) b → n ≡ units_in bs
-        → Took b (part.Link k) 1 (end_verdict n (byte_at b.bytes.now b.at)) r a (λ e. (e ≡ byte_at b.bytes.now b.at) × (e < n))
+    pub first_read : (n : ℕ) (r : Result ℕ Fault) → Stands bs (link_place g bs k) b → b.part ≡ part.Link k → n ≡ units_in bs
+        → Took b b.part 1 (end_verdict n (byte_at b.bytes.now b.at)) r a (λ e. (e ≡ byte_at b.bytes.now b.at) × (e < n))
         → One g bs (first k) (link_place g bs k + 1) r a (λ e. (e ≡ byte_at bs (link_place g bs k)) × (e < units_in bs))
     unfolding fault_of
-    first_read n r s e t =
-        let u = subst (λ m. Took b (part.Link k) 1 (end_verdict m (byte_at b.bytes.now b.at)) r a (λ e. (e ≡ byte_at b.bytes.now b.at) × (e < m))) e t in
-        at_place (λ x q. end_verdict (units_in bs) (byte_at x q)) (λ x q e. (e ≡ byte_at x q) × (e < units_in bs)) (part.Link k) 1 r b a bs (link_place g bs k) s u
+    first_read n r s w e t =
+        let u = subst (λ m. Took b b.part 1 (end_verdict m (byte_at b.bytes.now b.at)) r a (λ e. (e ≡ byte_at b.bytes.now b.at) × (e < m))) e t in
+        at_place (λ x q. end_verdict (units_in bs) (byte_at x q)) (λ x q e. (e ≡ byte_at x q) × (e < units_in bs)) (part.Link k) 1 r b a bs (link_place g bs k) b.part s w u
 
-    pub second_read : (n one : ℕ) (r : Result ℕ Fault) → Stands bs (link_place g bs k + 1) b → n ≡ units_in bs → one ≡ byte_at bs (link_place g bs k)
-        → Took b (part.Link k) 1 (other_verdict n one (byte_at b.bytes.now b.at)) r a (λ e. (e ≡ byte_at b.bytes.now b.at) × (e < n) × (one ≡ e → ⊥))
+    pub second_read : (n one : ℕ) (r : Result ℕ Fault) → Stands bs (link_place g bs k + 1) b → b.part ≡ part.Link k → n ≡ units_in bs → one ≡ byte_at bs (link_place g bs k)
+        → Took b b.part 1 (other_verdict n one (byte_at b.bytes.now b.at)) r a (λ e. (e ≡ byte_at b.bytes.now b.at) × (e < n) × (one ≡ e → ⊥))
         → One g bs (second k) (link_place g bs k + 2) r a (λ e. (e ≡ byte_at bs (link_place g bs k + 1)) × (e < units_in bs) × (one ≡ e → ⊥))
     unfolding fault_of
-    second_read n one r s e o t =
-        let F : ℕ → ℕ → Type 0 = λ m x. Took b (part.Link k) 1 (other_verdict m x (byte_at b.bytes.now b.at)) r a (λ e. (e ≡ byte_at b.bytes.now b.at) × (e < m) × (one ≡ e → ⊥)) in
+    second_read n one r s w e o t =
+        let F : ℕ → ℕ → Type 0 = λ m x. Took b b.part 1 (other_verdict m x (byte_at b.bytes.now b.at)) r a (λ e. (e ≡ byte_at b.bytes.now b.at) × (e < m) × (one ≡ e → ⊥)) in
         let u = subst (λ x. F (units_in bs) x) o (subst (λ m. F m one) e t) in
         let Q : ℕ → Type 0 = λ e. (e ≡ byte_at bs (link_place g bs k + 1)) × (e < units_in bs) × (one ≡ e → ⊥) in
         let next : link_place g bs k + 1 + 1 ≡ link_place g bs k + 2 = omega arith in
         subst (λ n. One g bs (second k) n r a Q) next
-        (at_place (λ x q. other_verdict (units_in bs) (byte_at bs (link_place g bs k)) (byte_at x q)) (λ x q e. (e ≡ byte_at x q) × (e < units_in bs) × (one ≡ e → ⊥)) (part.Link k) 1 r b a bs (link_place g bs k + 1) s u)
+        (at_place (λ x q. other_verdict (units_in bs) (byte_at bs (link_place g bs k)) (byte_at x q)) (λ x q e. (e ≡ byte_at x q) × (e < units_in bs) × (one ≡ e → ⊥)) (part.Link k) 1 r b a bs (link_place g bs k + 1) b.part s w u)
 
-    pub mark_read : (r : Result Bool Fault) → Stands bs (link_place g bs k + 2) b
-        → Took b (part.Link k) 1 (check (ltb (byte_at b.bytes.now b.at) 2) BadMark accepted) r a (λ m. cond m 1 0 ≡ byte_at b.bytes.now b.at)
+    pub mark_read : (r : Result Bool Fault) → Stands bs (link_place g bs k + 2) b → b.part ≡ part.Link k
+        → Took b b.part 1 (check (ltb (byte_at b.bytes.now b.at) 2) BadMark accepted) r a (λ m. cond m 1 0 ≡ byte_at b.bytes.now b.at)
         → One g bs (mark k) (number_place g bs k 0) r a (λ m. cond m 1 0 ≡ byte_at bs (link_place g bs k + 2))
     unfolding fault_of
-    mark_read r s t =
+    mark_read r s w t =
         let Q : Bool → Type 0 = λ m. cond m 1 0 ≡ byte_at bs (link_place g bs k + 2) in
         let next : link_place g bs k + 2 + 1 ≡ number_place g bs k 0 = omega arith in
         subst (λ n. One g bs (mark k) n r a Q) next
-        (at_place (λ x q. check (ltb (byte_at x q) 2) BadMark accepted) (λ x q m. cond m 1 0 ≡ byte_at x q) (part.Link k) 1 r b a bs (link_place g bs k + 2) s t)
+        (at_place (λ x q. check (ltb (byte_at x q) 2) BadMark accepted) (λ x q m. cond m 1 0 ≡ byte_at x q) (part.Link k) 1 r b a bs (link_place g bs k + 2) b.part s w t)
 
   -- the link that the fields make
   pub linked : (k : ℕ) (x y : ℕ) (m : Bool) (w : W)
@@ -79,3 +80,20 @@ module _ {W : Type 0} (g : Ghosts W) (bs : List ℕ) where
         limited = we.limited;
         bytes = ap (bytes_at bs p) s3 ∙ (bytes_join bs p 1 (1 + (1 + n)) ∙ (ap (λ v. v ++ bytes_at bs (p + 1) (1 + (1 + n))) one ∙ ap (λ v. x ∷ v) mid));
       }
+
+  -- what is promised of a weight and of a link at the cursor's place, at the place itself
+  pub weight_here : (k total : ℕ) (b a : Cursor) (r : Result W Fault) → Stands bs (number_place g bs k 0) b → b.part ≡ part.Link k → total ≡ total_in g bs k
+      → ((j : ℕ) → b.part ≡ part.Link j → b.at ≡ number_place g b.bytes.now j 0 → total ≡ total_in g b.bytes.now j
+          → Reads g b.bytes.now (number_fields j g.arity ++ (weight j ∷ [])) r a (number_place g b.bytes.now j g.arity) (Weighed g b.bytes.now j))
+      → Reads g bs (number_fields k g.arity ++ (weight k ∷ [])) r a (number_place g bs k g.arity) (Weighed g bs k)
+  weight_here k total b a r s w sum h =
+      let F : List ℕ → Type 0 = λ x. b.part ≡ part.Link k → b.at ≡ number_place g x k 0 → total ≡ total_in g x k → Reads g x (number_fields k g.arity ++ (weight k ∷ [])) r a (number_place g x k g.arity) (Weighed g x k) in
+      subst F s.bytes (h k) w s.place sum
+
+  pub link_here : (k units total : ℕ) (b a : Cursor) (r : Result (Link W) Fault) → Stands bs (link_place g bs k) b → units ≡ units_in bs → total ≡ total_in g bs k
+      → (b.at ≡ link_place g b.bytes.now k → units ≡ units_in b.bytes.now → total ≡ total_in g b.bytes.now k
+          → Reads g b.bytes.now (link_fields g b.bytes.now k) r a (link_place g b.bytes.now (k + 1)) (Linked g b.bytes.now k))
+      → Reads g bs (link_fields g bs k) r a (link_place g bs (k + 1)) (Linked g bs k)
+  link_here k units total b a r s count sum h =
+      let F : List ℕ → Type 0 = λ x. b.at ≡ link_place g x k → units ≡ units_in x → total ≡ total_in g x k → Reads g x (link_fields g x k) r a (link_place g x (k + 1)) (Linked g x k) in
+      subst F s.bytes h s.place count sum

@@ -1,5 +1,5 @@
 -- The calls by which the plan of a right sheet is made are never refused.
-use Rattle.std.proofs.Common.{◌≡◌, ℕ, ◌+◌, ◌<◌, ◌≤◌, true, false, not, List, [], ◌∷◌, ◌++◌, map, length, get_or, take, None, Ok, Err, Option, Result, sym, refl, ap, ◌∙◌, subst, arith}
+use Rattle.std.proofs.Common.{◌≡◌, ℕ, ◌+◌, ◌<◌, ◌≤◌, true, false, not, List, [], ◌∷◌, ◌++◌, map, length, get_or, take, None, Ok, Option, Result, IsOk, sym, refl, ap, ◌∙◌, subst, arith}
 use Rattle.std.proofs.lemmas.List.{length_push, length-map, length-take-le, get_or-map, take-map, map_more}
 use Rattle.std.proofs.lemmas.Bool.{lt-ltb, ne_eqb, le-leb, and_from}
 use Rattle.refusals.specs.declared.Refusal.{Refusal}
@@ -16,17 +16,15 @@ use Rattle.plans.proofs.Verdicts.{passes}
 use Rattle.readers.specs.Loads.{Apart}
 
 -- what is accepted is not refused, and does what the call says
-pub not_refused : {X : Type 0} (v : Option Refusal) (x : X) (e : Refusal) → v ≡ None → Err e ≡ reply_of v x → ⊥
-not_refused {X} v x e a h =
-    let q : ◌≡◌ {A = Result X Refusal} (Err e) (Ok x) = h ∙ ap (λ o. reply_of o x) a in
-    let z : ◌≡◌ {A = ℕ} 0 1 = cc in omega arith
+module _ {W X : Type 0} (v : Option Refusal) (x : X) (next : Model W) (p : Plan W) (q : Plan W) (r : Result X Refusal) (a : v ≡ None) (h : Called v x next p r q) where
+  pub goes : IsOk r
+  goes = subst IsOk (sym (h.reply ∙ ap (λ o. reply_of o x) a)) refl
 
-module _ {W X : Type 0} (v : Option Refusal) (x : X) (next : Model W) (p : Plan W) (q : Plan W) (y : X) (a : v ≡ None) (h : Called v x next p (Ok y) q) where
   pub does : model_of q ≡ next
   does = h.model ∙ ap (λ o. after_of o next (model_of p)) a
 
-  pub answers : y ≡ x
-  answers = let e : ◌≡◌ {A = Result X Refusal} (Ok y) (Ok x) = h.reply ∙ ap (λ o. reply_of o x) a in cc
+  pub answers : (y : X) → r ≡ Ok y → y ≡ x
+  answers y is = let e : ◌≡◌ {A = Result X Refusal} (Ok y) (Ok x) = sym is ∙ (h.reply ∙ ap (λ o. reply_of o x) a) in cc
 
 -- a code of its own
 pub enter_fine : {W : Type 0} (m : Model W) (text : List ℕ) (earlier : List (List ℕ)) (k : ℕ) → m.codes ≡ earlier → length earlier ≡ k → k < 64

@@ -10,12 +10,12 @@ use Rattle.readers.specs.Reading.{Taken}
 use Rattle.readers.specs.Steps.{Stands, Took}
 
 -- a field in the terms of the bytes and of the index at which the cursor stands
-pub at_place : {X : Type 0} (V : List ℕ → ℕ → Option Refusal) (P : List ℕ → ℕ → X → Type 0) (part : Part) (n : ℕ) (r : Result X Fault) (b a : Cursor) (bs : List ℕ) (p : ℕ)
-    → Stands bs p b → Took b part n (V b.bytes.now b.at) r a (P b.bytes.now b.at)
-    → Taken bs p n part (V bs p) r (P bs p) × IfOk r (λ _. Stands bs (p + n) a)
-at_place V P part n r b a bs p s t =
-    let F : List ℕ → ℕ → Type 0 = λ x q. Taken x q n part (V x q) r (P x q) × IfOk r (λ _. Stands x (q + n) a) in
-    subst (λ q. F bs q) s.place (subst (λ x. F x b.at) s.bytes (t.taken, t.moved))
+pub at_place : {X : Type 0} (V : List ℕ → ℕ → Option Refusal) (P : List ℕ → ℕ → X → Type 0) (part : Part) (n : ℕ) (r : Result X Fault) (b a : Cursor) (bs : List ℕ) (p : ℕ) (was : Part)
+    → Stands bs p b → was ≡ part → Took b was n (V b.bytes.now b.at) r a (P b.bytes.now b.at)
+    → Taken bs p n part (V bs p) r (P bs p) × IfOk r (λ _. Stands bs (p + n) a) × (a.part ≡ part)
+at_place V P part n r b a bs p was s e t =
+    let F : List ℕ → ℕ → Part → Type 0 = λ x q w. Taken x q n w (V x q) r (P x q) × IfOk r (λ _. Stands x (q + n) a) × (a.part ≡ w) in
+    subst (λ w. F bs p w) e (subst (λ q. F bs q was) s.place (subst (λ x. F x b.at was) s.bytes (t.taken, t.moved, t.within)))
 
 take_sum : {X : Type 0} (m n : ℕ) (xs : List X) → take (m + n) xs ≡ take m xs ++ take n (drop m xs)
 take_sum zero n xs = ap (λ k. take k xs) (zero-add n)

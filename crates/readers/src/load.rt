@@ -22,12 +22,8 @@ pub fn load_units<W: Weight>(units: &[Unit], plan: &mut Plan<W>)
     ensures model { model_of plan.new ≡ record { codes = map code_of units.now; links = [] } }
 {
     plan.clear();
-    for k in 0..units.len() {
-        let code = units[k].code;
-        match plan.enter(code.text()) {
-            Ok(_) => {}
-            Err(_) => unreachable(),
-        }
+    for unit in units {
+        plan.enter(unit.code.text()).unwrap();
     }
 }
 
@@ -40,16 +36,11 @@ fn load_link<W: Weight>(plan: &mut Plan<W>, link: Link<W>)
     ensures sound { Sound W.Weight plan.new }
     ensures model { model_of plan.new ≡ linked link (model_of plan.old) }
 {
-    let at = match plan.link(link.first as usize, link.second as usize, link.weight) {
-        Ok(at) => at,
-        Err(_) => unreachable(),
-    };
-    if link.in_service {
-        return;
-    }
-    match plan.mark(at, 0) {
-        Ok(()) => {}
-        Err(_) => unreachable(),
+    let at = plan
+        .link(link.first as usize, link.second as usize, link.weight)
+        .unwrap();
+    if !link.in_service {
+        plan.mark(at, 0).unwrap();
     }
 }
 
@@ -68,10 +59,7 @@ pub fn load_links<W: Weight>(cursor: &mut Cursor, head: Head, plan: &mut Plan<W>
 {
     let mut total = 0;
     for k in 0..head.links {
-        let link = match read_link::<W>(cursor, head.units, k, total) {
-            Ok(link) => link,
-            Err(_) => unreachable(),
-        };
+        let link = read_link::<W>(cursor, head.units, k, total).unwrap();
         load_link(plan, link);
         total += link.weight.amount();
     }

@@ -45,8 +45,7 @@ pub fn read<W: Weight>(bytes: &[u8], plan: &mut Plan<W>) -> Result<(), Fault>
     read_codes::<W>(&mut cursor, head, &mut units)?;
     let mut links = cursor;
     check_links::<W>(&mut cursor, head)?;
-    let count = head.units;
-    load_units(&units[0..count], plan);
+    load_units(&units[..head.units], plan);
     load_links(&mut links, head, plan);
     Ok(())
 }

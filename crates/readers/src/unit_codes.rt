@@ -23,14 +23,14 @@ fn characters(issue: Issue, field: &[u8]) -> &[u8]
     requires { length field.now ≡ size_of_code issue }
     ensures { result.now ≡ text_of issue field.now }
 {
-    match issue {
-        Issue::First => field,
-        Issue::Second => { if field[6] == 0 { &field[0..6] } else { field } }
+    match (issue, field) {
+        (Issue::Second, [rest @ .., 0]) => rest,
+        _ => field,
     }
 }
 
 // Reads the code of unit `k`: 7 if it is none, 8 if one of the first `k` units bears it.
-fn read_code(
+pub fn read_code(
     cursor: &mut Cursor,
     issue: Issue,
     units: &[Unit],
@@ -39,25 +39,12 @@ fn read_code(
     requires { k ≤ length units.now }
     ensures { Took cursor.old (Part.Unit k) (size_of_code issue) (code_verdict k (text_of issue (bytes_at cursor.old.bytes.now cursor.old.at (size_of_code issue))) (map code_of (take k units.now))) result cursor.new (λ c. bytes_of c ≡ text_of issue (bytes_at cursor.old.bytes.now cursor.old.at (size_of_code issue))) }
 {
+    cursor.enter(Part::Unit(k));
     let place = cursor.place();
-    let part = Part::Unit(k);
-    let field = cursor.field(part, issue.code_size())?;
-    let code = match FaultCode::parse(characters(issue, field)) {
-        Ok(code) => code,
-        Err(refusal) => {
-            return Err(Fault {
-                refusal,
-                place,
-                part,
-            });
-        }
-    };
+    let field = cursor.field(issue.code_size())?;
+    let code = cursor.judged(FaultCode::parse(characters(issue, field)), place)?;
     if is_borne(units, k, code, k) {
-        return Err(Fault {
-            refusal: Refusal::CodeTaken,
-            place,
-            part,
-        });
+        return Err(cursor.fault(Refusal::CodeTaken, place));
     }
     Ok(code)
 }

@@ -3,5 +3,5 @@ use Rattle.plans.specs.Model.{code_of, model_of}
 use Rattle.plans.specs.Sound.{Sound}
 use Rattle.readers.proofs.load.load_units.Given as goal
 
-abbrev pub invariant-loop-k : goal.invariant-loop-k
-invariant-loop-k g l = Sound g.W.Weight l.plan × (model_of l.plan ≡ record { codes = map code_of (take l.k l.units); links = [] })
+abbrev pub invariant-loop-unit : goal.invariant-loop-unit
+invariant-loop-unit g l = Sound g.W.Weight l.plan × (model_of l.plan ≡ record { codes = map code_of (take l.unit-index l.units); links = [] })

@@ -1,31 +1,38 @@
-use Rattle.std.proofs.Common.{◌+◌, ◌*◌, ◌≤◌, [], ◌∷◌, ◌++◌, length, ◌∙◌, subst, arith}
+use Rattle.std.proofs.Common.{◌≡◌, ◌+◌, ◌*◌, ◌≤◌, ℕ, [], ◌∷◌, ◌++◌, length, take, Ok, Err, ◌∙◌, subst, arith}
+use Rattle.std.proofs.lemmas.List.{length-take-le}
 use Rattle.std.proofs.lemmas.Result.{err_from_is_err_and}
 use Rattle.sheets.specs.Fields.{weight, number_fields, number_place}
 use Rattle.sheets.proofs.Firsts.{in_left}
-use Rattle.readers.specs.Records.{Weighed}
+use Rattle.readers.specs.Records.{Numbers, Reads, Weighed}
 use Rattle.readers.proofs.Exits.{broke}
-use Rattle.readers.proofs.Weighing.{Judged, weight_read}
+use Rattle.readers.proofs.Weighing.{weight_told}
 use Rattle.readers.proofs.parts.read_weight.Goals as goal
 
-pub returns-in_err-read_numbers : goal.returns-in_err-read_numbers
-returns-in_err-read_numbers g c =
-    let w = g.W.Weight in
-    let bs = c.args.cursor.now.bytes.now in
-    let k = c.args.k in
-    let d = c.in_err-read_numbers.field-0.0 in
-    let p = err_from_is_err_and c.from_residual.result c.from_residual.ensures.1 in
-    broke w bs (number_fields k w.arity ++ (weight k ∷ [])) c.read_numbers.new.cursor (number_place w bs k w.arity) (Weighed w bs k) c.from_residual.result p.0 d p.1 p.2
-    (in_left w bs (number_fields k w.arity) (weight k ∷ []) d c.in_err-read_numbers.ensures.taken)
+-- as many numbers are read as there are parts
+counted : (n m : ℕ) → n ≡ m → m ≤ 8 → length {A = ℕ} (take n (0 ∷ 0 ∷ 0 ∷ 0 ∷ 0 ∷ 0 ∷ 0 ∷ 0 ∷ [])) ≡ m
+counted n m e few = length-take-le {A = ℕ} n (0 ∷ 0 ∷ 0 ∷ 0 ∷ 0 ∷ 0 ∷ 0 ∷ 0 ∷ []) (omega arith) ∙ e
 
-pub returns : goal.returns
-returns g c =
-    let w = g.W.Weight in
+pub returns-in_err-read_numbers-clause-reads : goal.returns-in_err-read_numbers-clause-reads
+returns-in_err-read_numbers-clause-reads g c = λ k w at total.
+    let wt = g.W.Weight in
     let bs = c.args.cursor.now.bytes.now in
-    let k = c.args.k in
-    let n = c.in_ok-read_numbers.ensures in
+    let a = c.read_numbers.new.cursor in
+    let d = c.in_err-read_numbers.field-0.0 in
+    let count = counted c.part_count.result wt.arity c.part_count.ensures g.met.W.Weight.exact.few in
+    let n = subst (λ m. Reads wt bs (number_fields k m) (Err d) a (number_place wt bs k m) (λ (_ : Unit {0}). Numbers wt bs k m c.read_numbers.new.parts)) count (c.in_err-read_numbers.ensures.reads k w at) in
+    let p = err_from_is_err_and c.from_residual.result c.from_residual.ensures.1 in
+    broke wt bs (number_fields k wt.arity ++ (weight k ∷ [])) a (number_place wt bs k wt.arity) (Weighed wt bs k) c.from_residual.result p.0 d p.1 p.2
+    (in_left wt bs (number_fields k wt.arity) (weight k ∷ []) d n.taken)
+
+pub returns-clause-reads : goal.returns-clause-reads
+returns-clause-reads g c = λ k w at total.
+    let wt = g.W.Weight in
+    let bs = c.args.cursor.now.bytes.now in
     let a = c.read_numbers.new.cursor in
     let parts = c.read_numbers.new.parts in
-    let here = c.place-place.ensures ∙ c.requires.place in
-    let len : number_place w bs k 0 + 4 * w.arity ≤ length bs = subst (λ xs. number_place w bs k 0 + 4 * w.arity ≤ length xs) n.moved.bytes (omega (arith, a.within, n.moved.place)) in
-    weight_read w bs k g.met.W.Weight.exact parts n.taken.1 a c.args.total c.judge.result c.requires.total n.taken.0 n.moved len
-    (subst (λ q. Judged w bs k g.met.W.Weight.exact parts n.taken.1 c.args.total q c.judge.result) here c.judge.ensures)
+    let told = c.in_ok-read_numbers.ensures in
+    let count = counted c.part_count.result wt.arity c.part_count.ensures g.met.W.Weight.exact.few in
+    let n = subst (λ m. Reads wt bs (number_fields k m) (Ok c.in_ok-read_numbers.field-0) a (number_place wt bs k m) (λ (_ : Unit {0}). Numbers wt bs k m parts)) count (told.reads k w at) in
+    let len : number_place wt bs k 0 + 4 * wt.arity ≤ length bs = subst (λ xs. number_place wt bs k 0 + 4 * wt.arity ≤ length xs) n.moved.bytes (omega (arith, a.within, n.moved.place)) in
+    weight_told wt bs k g.met.W.Weight.exact parts n.taken.1 a c.args.total total n.taken.0 n.moved len
+    c.place-place.result a.part c.judge.result c.judged.result (c.place-place.ensures ∙ at) (told.part ∙ w) c.judge.ensures c.judged.ensures

@@ -1,4 +1,4 @@
-use Rattle.std.proofs.Common.{◌≡◌, ◌-◌, ◌≤◌, [], ◌∷◌, ◌++◌, map, length, take, Ok, Err, sym, refl, ap, ◌∙◌, subst, ap₂, arith}
+use Rattle.std.proofs.Common.{◌≡◌, ◌≤◌, [], ◌∷◌, ◌++◌, map, length, take, Ok, Err, sym, refl, ap, ◌∙◌, subst, ap₂, arith}
 use Rattle.std.proofs.lemmas.Result.{err_from_is_err_and}
 use Rattle.std.specs.List.{AllByRecursion}
 use Rattle.std.proofs.lemmas.List.{length-take}
@@ -19,7 +19,7 @@ returns-in_err-head g c =
     let met = g.met.W.Weight in
     let bs = c.args.bytes.now in
     let new = c.new-cursor.ensures.bytes in
-    let h = subst (λ x. Reads w x head_fields (Err c.in_err-head.field-0.0) c.read_head.new.cursor 9 (Headed w x)) new c.in_err-head.ensures in
+    let h = subst (λ x. Reads w x head_fields (Err c.in_err-head.field-0.0) c.read_head.new.cursor 9 (Headed w x)) new (c.in_err-head.ensures.reads c.new-cursor.ensures.at) in
     let d = c.in_err-head.field-0.0 in
     let p = err_from_is_err_and c.from_residual.result c.from_residual.ensures.1 in
     record {
@@ -33,7 +33,7 @@ read_codes-requires g c =
     let met = g.met.W.Weight in
     let bs = c.args.bytes.now in
     let new = c.new-cursor.ensures.bytes in
-    let h = subst (λ x. Reads w x head_fields (Ok c.in_ok-head.head) c.read_head.new.cursor 9 (Headed w x)) new c.in_ok-head.ensures in
+    let h = subst (λ x. Reads w x head_fields (Ok c.in_ok-head.head) c.read_head.new.cursor 9 (Headed w x)) new (c.in_ok-head.ensures.reads c.new-cursor.ensures.at) in
     let told = h.taken.1 in
     let back = sym h.moved.bytes in
     record {
@@ -49,7 +49,7 @@ returns-in_err-read_codes g c =
     let met = g.met.W.Weight in
     let bs = c.args.bytes.now in
     let new = c.new-cursor.ensures.bytes in
-    let h = subst (λ x. Reads w x head_fields (Ok c.in_ok-head.head) c.read_head.new.cursor 9 (Headed w x)) new c.in_ok-head.ensures in
+    let h = subst (λ x. Reads w x head_fields (Ok c.in_ok-head.head) c.read_head.new.cursor 9 (Headed w x)) new (c.in_ok-head.ensures.reads c.new-cursor.ensures.at) in
     let u = subst (λ x. Reads w x (code_fields (units_in x)) (Err c.in_err-read_codes.field-0.0) c.read_codes.new.cursor (code_place x (units_in x)) (λ _. map code_of (take (units_in x) c.read_codes.new.units) ≡ texts_in x (units_in x))) h.moved.bytes c.in_err-read_codes.ensures in
     let d = c.in_err-read_codes.field-0.0 in
     let p = err_from_is_err_and c.from_residual-in_err-read_codes.result c.from_residual-in_err-read_codes.ensures.1 in
@@ -64,7 +64,7 @@ check_links-requires g c =
     let met = g.met.W.Weight in
     let bs = c.args.bytes.now in
     let new = c.new-cursor.ensures.bytes in
-    let h = subst (λ x. Reads w x head_fields (Ok c.in_ok-head.head) c.read_head.new.cursor 9 (Headed w x)) new c.in_ok-head.ensures in
+    let h = subst (λ x. Reads w x head_fields (Ok c.in_ok-head.head) c.read_head.new.cursor 9 (Headed w x)) new (c.in_ok-head.ensures.reads c.new-cursor.ensures.at) in
     let u = subst (λ x. Reads w x (code_fields (units_in x)) (Ok c.in_ok-read_codes.field-0) c.read_codes.new.cursor (code_place x (units_in x)) (λ _. map code_of (take (units_in x) c.read_codes.new.units) ≡ texts_in x (units_in x))) h.moved.bytes c.in_ok-read_codes.ensures in
     let told = h.taken.1 in
     let back = sym u.moved.bytes in
@@ -80,7 +80,7 @@ returns-in_err-check_links g c =
     let met = g.met.W.Weight in
     let bs = c.args.bytes.now in
     let new = c.new-cursor.ensures.bytes in
-    let h = subst (λ x. Reads w x head_fields (Ok c.in_ok-head.head) c.read_head.new.cursor 9 (Headed w x)) new c.in_ok-head.ensures in
+    let h = subst (λ x. Reads w x head_fields (Ok c.in_ok-head.head) c.read_head.new.cursor 9 (Headed w x)) new (c.in_ok-head.ensures.reads c.new-cursor.ensures.at) in
     let u = subst (λ x. Reads w x (code_fields (units_in x)) (Ok c.in_ok-read_codes.field-0) c.read_codes.new.cursor (code_place x (units_in x)) (λ _. map code_of (take (units_in x) c.read_codes.new.units) ≡ texts_in x (units_in x))) h.moved.bytes c.in_ok-read_codes.ensures in
     let v = subst (λ x. Reads w x (through (link_fields w x) (links_in x) ++ (end ∷ [])) (Err c.in_err-check_links.field-0.0) c.check_links.new.cursor (length x) (λ _. link_place w x (links_in x) ≡ length x)) u.moved.bytes c.in_err-check_links.ensures in
     let d = c.in_err-check_links.field-0.0 in
@@ -96,17 +96,17 @@ load_units-requires g c =
     let met = g.met.W.Weight in
     let bs = c.args.bytes.now in
     let new = c.new-cursor.ensures.bytes in
-    let h = subst (λ x. Reads w x head_fields (Ok c.in_ok-head.head) c.read_head.new.cursor 9 (Headed w x)) new c.in_ok-head.ensures in
+    let h = subst (λ x. Reads w x head_fields (Ok c.in_ok-head.head) c.read_head.new.cursor 9 (Headed w x)) new (c.in_ok-head.ensures.reads c.new-cursor.ensures.at) in
     let u = subst (λ x. Reads w x (code_fields (units_in x)) (Ok c.in_ok-read_codes.field-0) c.read_codes.new.cursor (code_place x (units_in x)) (λ _. map code_of (take (units_in x) c.read_codes.new.units) ≡ texts_in x (units_in x))) h.moved.bytes c.in_ok-read_codes.ensures in
     let told = h.taken.1 in
     let us = c.read_codes.new.units in
     let n = c.in_ok-head.head.units in
-    let count : n - 0 ≡ units_in bs = omega (arith, told.units) in
+    let count : n ≡ units_in bs = omega (arith, told.units) in
     let texts = ap (λ k. map code_of (take k us)) count ∙ u.taken.1 in
     record {
       sound = c.requires;
-      few = omega (arith, length-take (n - 0) us, told.few);
-      apart = apart w bs (units_in bs) (map code_of (take (n - 0) us)) texts u.taken.0;
+      few = omega (arith, length-take n us, told.few);
+      apart = apart w bs (units_in bs) (map code_of (take n us)) texts u.taken.0;
     }
 
 pub load_links-requires : goal.load_links-requires
@@ -115,13 +115,13 @@ load_links-requires g c =
     let met = g.met.W.Weight in
     let bs = c.args.bytes.now in
     let new = c.new-cursor.ensures.bytes in
-    let h = subst (λ x. Reads w x head_fields (Ok c.in_ok-head.head) c.read_head.new.cursor 9 (Headed w x)) new c.in_ok-head.ensures in
+    let h = subst (λ x. Reads w x head_fields (Ok c.in_ok-head.head) c.read_head.new.cursor 9 (Headed w x)) new (c.in_ok-head.ensures.reads c.new-cursor.ensures.at) in
     let u = subst (λ x. Reads w x (code_fields (units_in x)) (Ok c.in_ok-read_codes.field-0) c.read_codes.new.cursor (code_place x (units_in x)) (λ _. map code_of (take (units_in x) c.read_codes.new.units) ≡ texts_in x (units_in x))) h.moved.bytes c.in_ok-read_codes.ensures in
     let v = subst (λ x. Reads w x (through (link_fields w x) (links_in x) ++ (end ∷ [])) (Ok c.in_ok-check_links.field-0) c.check_links.new.cursor (length x) (λ _. link_place w x (links_in x) ≡ length x)) u.moved.bytes c.in_ok-check_links.ensures in
     let told = h.taken.1 in
     let us = c.read_codes.new.units in
     let n = c.in_ok-head.head.units in
-    let count : n - 0 ≡ units_in bs = omega (arith, told.units) in
+    let count : n ≡ units_in bs = omega (arith, told.units) in
     let texts = ap (λ k. map code_of (take k us)) count ∙ u.taken.1 in
     let back = sym u.moved.bytes in
     let all = through (link_fields w bs) (links_in bs) in
@@ -143,13 +143,13 @@ returns g c =
     let met = g.met.W.Weight in
     let bs = c.args.bytes.now in
     let new = c.new-cursor.ensures.bytes in
-    let h = subst (λ x. Reads w x head_fields (Ok c.in_ok-head.head) c.read_head.new.cursor 9 (Headed w x)) new c.in_ok-head.ensures in
+    let h = subst (λ x. Reads w x head_fields (Ok c.in_ok-head.head) c.read_head.new.cursor 9 (Headed w x)) new (c.in_ok-head.ensures.reads c.new-cursor.ensures.at) in
     let u = subst (λ x. Reads w x (code_fields (units_in x)) (Ok c.in_ok-read_codes.field-0) c.read_codes.new.cursor (code_place x (units_in x)) (λ _. map code_of (take (units_in x) c.read_codes.new.units) ≡ texts_in x (units_in x))) h.moved.bytes c.in_ok-read_codes.ensures in
     let v = subst (λ x. Reads w x (through (link_fields w x) (links_in x) ++ (end ∷ [])) (Ok c.in_ok-check_links.field-0) c.check_links.new.cursor (length x) (λ _. link_place w x (links_in x) ≡ length x)) u.moved.bytes c.in_ok-check_links.ensures in
     let told = h.taken.1 in
     let us = c.read_codes.new.units in
     let n = c.in_ok-head.head.units in
-    let count : n - 0 ≡ units_in bs = omega (arith, told.units) in
+    let count : n ≡ units_in bs = omega (arith, told.units) in
     let texts = ap (λ k. map code_of (take k us)) count ∙ u.taken.1 in
     let p = c.load_links.new.plan in
     let before = model_of c.load_units.new.plan in
