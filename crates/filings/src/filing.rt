@@ -6,7 +6,7 @@ use crate::kept::{Change, Edit, Kept};
 use plans::plan::{Link, Plan};
 use refusals::Refusal;
 use sheets::fault::Fault;
-use sheets::read;
+use readers::read;
 use weights::weight::Weight;
 
 pub mod answers;
