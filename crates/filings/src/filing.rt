@@ -4,9 +4,9 @@ ghost use Rattle.plans.specs.Sound.{Sound};
 
 use crate::kept::{Change, Edit, Kept};
 use plans::plan::{Link, Plan};
+use readers::read;
 use refusals::Refusal;
 use sheets::fault::Fault;
-use readers::read;
 use weights::weight::Weight;
 
 pub mod answers;

@@ -84,7 +84,7 @@ module _ {W : Type 0} (g : Ghosts W) (bs : List ℕ) where
   -- what is promised of a weight and of a link at the cursor's place, at the place itself
   pub weight_here : (k total : ℕ) (b a : Cursor) (r : Result W Fault) → Stands bs (number_place g bs k 0) b → b.part ≡ part.Link k → total ≡ total_in g bs k
       → ((j : ℕ) → b.part ≡ part.Link j → b.at ≡ number_place g b.bytes.now j 0 → total ≡ total_in g b.bytes.now j
-          → Reads g b.bytes.now (number_fields j g.arity ++ (weight j ∷ [])) r a (number_place g b.bytes.now j g.arity) (Weighed g b.bytes.now j))
+      → Reads g b.bytes.now (number_fields j g.arity ++ (weight j ∷ [])) r a (number_place g b.bytes.now j g.arity) (Weighed g b.bytes.now j))
       → Reads g bs (number_fields k g.arity ++ (weight k ∷ [])) r a (number_place g bs k g.arity) (Weighed g bs k)
   weight_here k total b a r s w sum h =
       let F : List ℕ → Type 0 = λ x. b.part ≡ part.Link k → b.at ≡ number_place g x k 0 → total ≡ total_in g x k → Reads g x (number_fields k g.arity ++ (weight k ∷ [])) r a (number_place g x k g.arity) (Weighed g x k) in
@@ -92,7 +92,7 @@ module _ {W : Type 0} (g : Ghosts W) (bs : List ℕ) where
 
   pub link_here : (k units total : ℕ) (b a : Cursor) (r : Result (Link W) Fault) → Stands bs (link_place g bs k) b → units ≡ units_in bs → total ≡ total_in g bs k
       → (b.at ≡ link_place g b.bytes.now k → units ≡ units_in b.bytes.now → total ≡ total_in g b.bytes.now k
-          → Reads g b.bytes.now (link_fields g b.bytes.now k) r a (link_place g b.bytes.now (k + 1)) (Linked g b.bytes.now k))
+      → Reads g b.bytes.now (link_fields g b.bytes.now k) r a (link_place g b.bytes.now (k + 1)) (Linked g b.bytes.now k))
       → Reads g bs (link_fields g bs k) r a (link_place g bs (k + 1)) (Linked g bs k)
   link_here k units total b a r s count sum h =
       let F : List ℕ → Type 0 = λ x. b.at ≡ link_place g x k → units ≡ units_in x → total ≡ total_in g x k → Reads g x (link_fields g x k) r a (link_place g x (k + 1)) (Linked g x k) in

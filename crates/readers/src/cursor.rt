@@ -48,11 +48,7 @@ impl<'a> Cursor<'a> {
     }
 
     // A judgement on the field at a place, whose refusal is a fault there.
-    pub(crate) fn judged<T>(
-        &self,
-        judgement: Result<T, Refusal>,
-        place: usize,
-    ) -> Result<T, Fault>
+    pub(crate) fn judged<T>(&self, judgement: Result<T, Refusal>, place: usize) -> Result<T, Fault>
         ensures { MatchResult judgement (λ x. result ≡ Ok x) (λ e. result ≡ Err (record { refusal = e; place = place; part = self.now.part })) }
     {
         match judgement {

@@ -10,16 +10,19 @@ pub loop-part-init : goal.loop-part-init
 loop-part-init g c = (refl, λ k w at. numbering_none g.W.Weight c.args.cursor.now.bytes.now k c.args.cursor.now c.args.parts.now refl w at)
 
 pub loop-part-preserved : goal.loop-part-preserved
-loop-part-preserved g c = (c.in_ok-part.ensures.within ∙ c.loop-part.invariant.0, λ k w at.
-    let wt = g.W.Weight in
-    let bs = c.args.cursor.now.bytes.now in
-    let i = c.loop-part.part-index in
-    let a = c.four_bytes.new.self in
-    let x = c.in_ok-part.field-0 in
-    let was = c.loop-part.invariant.1 k w at in
-    let t = number_read wt bs k c.loop-part.cursor a i (Ok x) was.stands was.within c.in_ok-part.ensures in
-    let room : i < length c.loop-part.part-items = omega (arith, c.loop-part.auto.part-items) in
-    numbering_more wt bs k i c.loop-part.cursor a c.loop-part.part-items x room was t.0.0 t.0.1.0 t.0.1.1 t.1 t.2)
+loop-part-preserved g c = (
+  c.in_ok-part.ensures.within ∙ c.loop-part.invariant.0,
+  λ k w at.
+      let wt = g.W.Weight in
+      let bs = c.args.cursor.now.bytes.now in
+      let i = c.loop-part.part-index in
+      let a = c.four_bytes.new.self in
+      let x = c.in_ok-part.field-0 in
+      let was = c.loop-part.invariant.1 k w at in
+      let t = number_read wt bs k c.loop-part.cursor a i (Ok x) was.stands was.within c.in_ok-part.ensures in
+      let room : i < length c.loop-part.part-items = omega (arith, c.loop-part.auto.part-items) in
+      numbering_more wt bs k i c.loop-part.cursor a c.loop-part.part-items x room was t.0.0 t.0.1.0 t.0.1.1 t.1 t.2,
+)
 
 pub returns-in_err-part-clause-reads : goal.returns-in_err-part-clause-reads
 returns-in_err-part-clause-reads g c = λ k w at.

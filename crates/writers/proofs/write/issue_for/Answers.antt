@@ -19,11 +19,11 @@ pub returns : goal.returns
 returns g c =
     let p = c.args.plan.now in
     elim c.else-eq.branch [
-      else-eq-via-then-eq+else-any_long w ↦
-        let none : has_long_code (model_of p).codes ≡ false =
-        ap has_long_code (sym w.units.ensures) ∙ (sym (long_in w.units.result.now) ∙ (sym w.any_long.ensures ∙ w.if-any_long.false)) in
-        fitting g.W.Weight p c.args.number c.requires c.in_ok-issue.issue c.in_ok-issue.ensures (λ _. none)
-    | else-eq-via-else-eq w ↦
-        let other : c.in_ok-issue.issue ≡ First → ⊥ = λ is. search rules in
-        fitting g.W.Weight p c.args.number c.requires c.in_ok-issue.issue c.in_ok-issue.ensures (λ is. absurd (other is))
+      | else-eq-via-then-eq+else-any_long w ↦
+          let none : has_long_code (model_of p).codes ≡ false =
+          ap has_long_code (sym w.units.ensures) ∙ (sym (long_in w.units.result.now) ∙ (sym w.any_long.ensures ∙ w.if-any_long.false)) in
+          fitting g.W.Weight p c.args.number c.requires c.in_ok-issue.issue c.in_ok-issue.ensures (λ _. none)
+      | else-eq-via-else-eq w ↦
+          let other : c.in_ok-issue.issue ≡ First → ⊥ = λ is. search rules in
+          fitting g.W.Weight p c.args.number c.requires c.in_ok-issue.issue c.in_ok-issue.ensures (λ is. absurd (other is))
     ]
