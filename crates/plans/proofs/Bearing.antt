@@ -1,6 +1,6 @@
 -- Codes of a table of units, and whether one bears a code.
 use Rattle.std.proofs.Common.{◌≡◌, ℕ, zero, suc, ◌+◌, ◌<◌, ◌≤◌, Bool, true, false, not, ◌&&◌, ◌||◌, eqb, List, [], ◌∷◌, map, length, get_or, take, drop, Decides, sym, refl, ap, ◌∙◌, ⊎_elim, suc-add, add-one, arith}
-use Rattle.std.proofs.lemmas.List.{length-map, length-take-le, get_or-take, drop_all}
+use Rattle.std.proofs.lemmas.List.{length-map, length-take-le}
 use Rattle.std.proofs.lemmas.Bool.{eq-eqb, ne_eqb, eqb-true, and_from, and_parts, and_right, or_left, cases_Bool, both_ways}
 use Rattle.plans.specs.declared.plan.Unit.{Unit}
 use Rattle.plans.specs.Model.{code_of, same_text, borne_from, borne_by_other}
@@ -28,32 +28,21 @@ drop_map f [] i d h = absurd (omega arith)
 drop_map f (x ∷ xs) zero d h = refl
 drop_map f (x ∷ xs) (suc i) d h = drop_map f xs i d (omega arith) ∙ ap (λ n. f (get_or xs i d) ∷ drop n (f x ∷ map f xs)) (sym (suc-add i 1))
 
--- the search for a bearer among the first n units, at unit i
-module _ (text : List ℕ) (but : ℕ) (us : List Unit) (n i : ℕ) (d : Unit) (within : n ≤ length us) (h : i < n) where
-  codes : List (List ℕ)
-  codes = map code_of (take n us)
-
-  step : borne_from i but text (drop i codes) ≡ ((not (eqb i but) && same_text (code_of (get_or us i d)) text) || borne_from (i + 1) but text (drop (i + 1) codes))
-  unfolding codes
+-- the search for a bearer, at unit i
+module _ (text : List ℕ) (but : ℕ) (us : List Unit) (i : ℕ) (d : Unit) (h : i < length us) where
+  step : borne_from i but text (drop i (map code_of us)) ≡ ((not (eqb i but) && same_text (code_of (get_or us i d)) text) || borne_from (i + 1) but text (drop (i + 1) (map code_of us)))
   step =
-      ap (borne_from i but text) (drop_map code_of (take n us) i d (rw (length-take-le n us within) h))
-      ∙ (ap (λ x. (not (eqb i but) && same_text (code_of x) text) || borne_from (suc i) but text (drop (i + 1) codes)) (get_or-take n us i d h)
-      ∙ ap (λ m. (not (eqb i but) && same_text (code_of (get_or us i d)) text) || borne_from m but text (drop (i + 1) codes)) (sym (add-one i)))
+      ap (borne_from i but text) (drop_map code_of us i d h)
+      ∙ ap (λ m. (not (eqb i but) && same_text (code_of (get_or us i d)) text) || borne_from m but text (drop (i + 1) (map code_of us))) (sym (add-one i))
 
-  pub passes_over : i ≡ but → borne_from (i + 1) but text (drop (i + 1) (map code_of (take n us))) ≡ borne_from i but text (drop i (map code_of (take n us)))
-  unfolding codes
-  passes_over e = sym (step ∙ ap (λ b. (not b && same_text (code_of (get_or us i d)) text) || borne_from (i + 1) but text (drop (i + 1) codes)) (eq-eqb i but e))
+  pub passes_over : i ≡ but → borne_from (i + 1) but text (drop (i + 1) (map code_of us)) ≡ borne_from i but text (drop i (map code_of us))
+  passes_over e = sym (step ∙ ap (λ b. (not b && same_text (code_of (get_or us i d)) text) || borne_from (i + 1) but text (drop (i + 1) (map code_of us))) (eq-eqb i but e))
 
-  pub goes_on : same_text (code_of (get_or us i d)) text ≡ false → borne_from (i + 1) but text (drop (i + 1) (map code_of (take n us))) ≡ borne_from i but text (drop i (map code_of (take n us)))
-  unfolding codes
-  goes_on e = sym (step ∙ ap (λ b. b || borne_from (i + 1) but text (drop (i + 1) codes)) (and_right (not (eqb i but)) _ e))
+  pub goes_on : same_text (code_of (get_or us i d)) text ≡ false → borne_from (i + 1) but text (drop (i + 1) (map code_of us)) ≡ borne_from i but text (drop i (map code_of us))
+  goes_on e = sym (step ∙ ap (λ b. b || borne_from (i + 1) but text (drop (i + 1) (map code_of us))) (and_right (not (eqb i but)) _ e))
 
-  pub finds : (i ≡ but → ⊥) → same_text (code_of (get_or us i d)) text ≡ true → borne_from i but text (drop i (map code_of (take n us))) ≡ true
-  unfolding codes
+  pub finds : (i ≡ but → ⊥) → same_text (code_of (get_or us i d)) text ≡ true → borne_from i but text (drop i (map code_of us)) ≡ true
   finds ne e = step ∙ or_left _ _ (and_from (not (eqb i but)) _ (ap not (ne_eqb i but ne)) e)
-
-pub none_left : (text : List ℕ) (but : ℕ) (us : List Unit) (n i : ℕ) → n ≤ i → n ≤ length us → borne_from i but text (drop i (map code_of (take n us))) ≡ false
-none_left text but us n i h within = ap (borne_from i but text) (drop_all i (map code_of (take n us)) (rw (length_codes n us within) h))
 
 -- what a search for a bearer says, in the words of the rules
 pub bearer_is : (us : List Unit) (n : ℕ) (text held : List ℕ) (r : Bool) → n ≤ length us → held ≡ text → r ≡ borne_by_other n held (map code_of (take n us)) → borne_by_other (length (map code_of (take n us))) text (map code_of (take n us)) ≡ r

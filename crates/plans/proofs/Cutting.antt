@@ -1,15 +1,15 @@
 -- Adding up what a division cuts, link by link, and counting marks.
-use Rattle.std.proofs.Common.{◌≡◌, ℕ, ◌+◌, ◌<◌, ◌≤◌, Bool, true, false, cond, ◌&&◌, eqb, ltb, List, [], ◌∷◌, map, length, get_or, drop, sym, refl, ap, ◌∙◌, arith}
+use Rattle.std.proofs.Common.{◌≡◌, ℕ, ◌+◌, ◌≤◌, Bool, true, false, not, ◌&&◌, List, [], ◌∷◌, map, length, drop, sym, refl, ap, ◌∙◌, arith}
 use mathlib.Core.Bool.{beq}
-use Rattle.std.proofs.lemmas.List.{drop_more, drop_all}
-use Rattle.std.proofs.lemmas.Bool.{cond-true, cond-false, cond_both, and_from, and_left, and_right, eq-eqb, ne_eqb}
+use Rattle.std.proofs.lemmas.List.{drop_all}
+use Rattle.std.proofs.lemmas.Bool.{cond-true, cond-false, cond_both}
 use Rattle.weights.specs.declared.weight.Weight.{Ghosts}
 use Rattle.weights.specs.Laws.{Laws, limit}
 use Rattle.cuts.specs.Divisions.{differ}
 use Rattle.cuts.specs.Links.{sum}
 use Rattle.plans.specs.declared.plan.Link.{Link}
 use Rattle.cuts.specs.Kinds.{kind_of}
-use Rattle.plans.specs.Divided.{valued, are_marks, marks_count}
+use Rattle.plans.specs.Divided.{valued}
 use Rattle.plans.specs.Model.{amount_of, total_of}
 
 module _ {W : Type 0} (g : Ghosts W) (T : ℕ → ℕ → Bool) where
@@ -17,17 +17,13 @@ module _ {W : Type 0} (g : Ghosts W) (T : ℕ → ℕ → Bool) where
   abbrev pub cut_of : List (Link W) → g.Value
   cut_of ls = sum (kind_of g) T (map (valued g) ls)
 
-  pub taken : (l : Link W) (ls : List (Link W)) → l.in_service ≡ true → T l.first l.second ≡ true → cut_of (l ∷ ls) ≡ g.plus (g.value l.weight) (cut_of ls)
+  pub taken : (l : Link W) (ls : List (Link W)) → (l.in_service && T l.first l.second) ≡ true → cut_of (l ∷ ls) ≡ g.plus (g.value l.weight) (cut_of ls)
   unfolding sum
-  taken l ls s t = cond-true _ _ _ (and_from l.in_service (T l.first l.second) s t)
+  taken l ls e = cond-true _ _ _ e
 
-  pub out_of_service : (l : Link W) (ls : List (Link W)) → l.in_service ≡ false → cut_of (l ∷ ls) ≡ cut_of ls
+  pub passed_over : (l : Link W) (ls : List (Link W)) → (l.in_service && T l.first l.second) ≡ false → cut_of (l ∷ ls) ≡ cut_of ls
   unfolding sum
-  out_of_service l ls s = cond-false _ _ _ (and_left l.in_service (T l.first l.second) s)
-
-  pub not_cut : (l : Link W) (ls : List (Link W)) → T l.first l.second ≡ false → cut_of (l ∷ ls) ≡ cut_of ls
-  unfolding sum
-  not_cut l ls t = cond-false _ _ _ (and_right l.in_service (T l.first l.second) t)
+  passed_over l ls e = cond-false _ _ _ e
 
   pub cut_none : cut_of [] ≡ g.zero
   unfolding sum
@@ -86,33 +82,9 @@ module _ {W : Type 0} (g : Ghosts W) (T : ℕ → ℕ → Bool) where
         ∙ (laws.comm g.zero acc (omega arith)
         ∙ (ap (g.plus acc) (sym cut_none ∙ ap cut_of (sym (drop_all i all past))) ∙ a.whole))
 
--- marks, one after the other
-module _ (ms : List ℕ) (i : ℕ) (h : i < length ms) where
-  pub marks_step : are_marks (drop i ms) ≡ (ltb (get_or ms i 0) 2 && are_marks (drop (i + 1) ms))
-  marks_step = ap are_marks (drop_more ms i 0 h)
-
-  counts : marks_count (drop i ms) ≡ cond (eqb (get_or ms i 0) 1) 1 0 + marks_count (drop (i + 1) ms)
-  counts = ap marks_count (drop_more ms i 0 h)
-
-  pub count_marked : get_or ms i 0 ≡ 1 → marks_count (drop i ms) ≡ 1 + marks_count (drop (i + 1) ms)
-  count_marked e = counts ∙ ap (λ n. n + marks_count (drop (i + 1) ms)) (cond-true {A = ℕ} (eqb (get_or ms i 0) 1) 1 0 (eq-eqb (get_or ms i 0) 1 e))
-
-  pub count_unmarked : (get_or ms i 0 ≡ 1 → ⊥) → marks_count (drop i ms) ≡ 0 + marks_count (drop (i + 1) ms)
-  count_unmarked ne = counts ∙ ap (λ n. n + marks_count (drop (i + 1) ms)) (cond-false {A = ℕ} (eqb (get_or ms i 0) 1) 1 0 (ne_eqb (get_or ms i 0) 1 ne))
-
--- two sides agree, or differ
-pub agree : (a b : Bool) → beq a b ≡ true → differ a b ≡ false
-agree true true e = refl
-agree true false e = sym e
-agree false true e = sym e
-agree false false e = refl
-
-pub disagree : (a b : Bool) → beq a b ≡ false → differ a b ≡ true
-disagree true true e = sym e
-disagree true false e = refl
-disagree false true e = refl
-disagree false false e = sym e
-
-pub count_within : (ms : List ℕ) → marks_count ms ≤ length ms
-count_within [] = omega arith
-count_within (m ∷ ms) = let r = count_within ms in cond_both (eqb m 1) 1 0 (λ n. n + marks_count ms ≤ length (m ∷ ms)) (λ _. omega arith) (λ _. omega arith)
+-- the test of two sides for a difference
+pub differ_is : (a b : Bool) → not (beq a b) ≡ differ a b
+differ_is true true = refl
+differ_is true false = refl
+differ_is false true = refl
+differ_is false false = refl

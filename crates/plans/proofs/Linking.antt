@@ -1,5 +1,5 @@
 -- The verdicts of the calls that name links, from what the code compares.
-use Rattle.std.proofs.Common.{◌≡◌, ℕ, ◌+◌, ◌<◌, ◌≤◌, true, not, ◌&&◌, ltb, leb, length, get_or, Some, sym, ap, ◌∙◌, arith}
+use Rattle.std.proofs.Common.{◌≡◌, ℕ, ◌+◌, ◌<◌, ◌≤◌, true, not, ◌&&◌, ◌⊎◌, ltb, leb, length, get_or, Some, sym, ap, ◌∙◌, ⊎_elim, arith}
 use Rattle.std.specs.List.{remove}
 use Rattle.std.proofs.lemmas.List.{length-take-le, get_or-take}
 use Rattle.std.proofs.lemmas.Bool.{lt-ltb, le-ltb, le-leb, lt-leb, eq-eqb, ne_eqb, and_from, and_left, and_right}
@@ -29,11 +29,10 @@ module _ {W : Type 0} (g : Ghosts W) (p : Plan W) (s : Sound g p) where
       sym (ap (λ l. total_of g (remove (model_of p).links k) + amount_of g l.weight) at) ∙ (e ∙ sym s.counted)
 
   module _ (a b : ℕ) (w : W) where
-    pub no_first : p.unit_count ≤ a → link_verdict (model_of p) g a b w ≡ Some NoSuchUnit
-    no_first h = fails NoSuchUnit _ (and_left _ _ (le-ltb a (length (model_of p).codes) (rw unit_size h)))
-
-    pub no_second : p.unit_count ≤ b → link_verdict (model_of p) g a b w ≡ Some NoSuchUnit
-    no_second h = fails NoSuchUnit _ (and_right _ _ (le-ltb b (length (model_of p).codes) (rw unit_size h)))
+    pub no_unit : (p.unit_count ≤ a) ⊎ (p.unit_count ≤ b) → link_verdict (model_of p) g a b w ≡ Some NoSuchUnit
+    no_unit = ⊎_elim
+        (λ h. fails NoSuchUnit _ (and_left _ _ (le-ltb a (length (model_of p).codes) (rw unit_size h))))
+        (λ h. fails NoSuchUnit _ (and_right _ _ (le-ltb b (length (model_of p).codes) (rw unit_size h))))
 
     module _ (la : a < p.unit_count) (lb : b < p.unit_count) where
       ends : (ltb a (length (model_of p).codes) && ltb b (length (model_of p).codes)) ≡ true

@@ -1,6 +1,6 @@
 -- Links that get their marks one by one.
-use Rattle.std.proofs.Common.{◌≡◌, ℕ, ◌+◌, ◌<◌, ◌≤◌, Bool, true, false, cond, eqb, List, [], ◌∷◌, length, get_or, set, sym, refl, ap, ◌∙◌, subst, ⊎_elim, arith}
-use Rattle.std.proofs.lemmas.List.{get_or-set_same, get_or-set_other, get_or-take, length-set, same_lists}
+use Rattle.std.proofs.Common.{◌≡◌, ℕ, ◌+◌, ◌<◌, ◌≤◌, Bool, true, false, cond, eqb, List, length, get_or, set, sym, refl, ap, ◌∙◌, subst, ap₂, ⊎_elim, arith}
+use Rattle.std.proofs.lemmas.List.{get_or-set_same, get_or-set_other, get_or-take, length-set, get_or_default, same_lists}
 use Rattle.std.proofs.lemmas.Bool.{cases_eq, cases_lt}
 use Rattle.weights.specs.declared.weight.Weight.{Ghosts}
 use Rattle.plans.specs.declared.plan.Link.{Link}
@@ -8,7 +8,8 @@ use Rattle.plans.specs.declared.plan.Plan.{Plan}
 use Rattle.plans.specs.Marks.{mark_of, with_mark, Shows, Untouched, Remarked}
 use Rattle.plans.specs.Model.{model_of}
 use Rattle.plans.specs.Sound.{Sound}
-use Rattle.plans.proofs.Linking.{link_size_lem}
+use Rattle.plans.proofs.Keeping.{SameUnits, sound_changed}
+use Rattle.plans.proofs.Linking.{link_size_lem, others}
 
 -- the first i links have their marks from the table, and nothing else is changed
 pub record MarkedTo {W : Type 0} (marks : List ℕ) (before : Plan W) (i : ℕ) (after : Plan W) : Type 0 where
@@ -20,28 +21,35 @@ pub record MarkedTo {W : Type 0} (marks : List ℕ) (before : Plan W) (i : ℕ) 
   pub link_count : after.link_count ≡ before.link_count
   pub total : after.total ≡ before.total
 
-same_size : {X : Type 0} (xs ys : List X) (i : ℕ) (f : X → X) → i < length xs → ((d : X) → ys ≡ set xs i (f (get_or xs i d))) → length ys ≡ length xs
-same_size [] ys i f room is = absurd (omega arith)
-same_size (x ∷ xs) ys i f room is = ap length (is x) ∙ length-set (x ∷ xs) i (f (get_or (x ∷ xs) i x))
+-- a plan stays sound where one link is put in service or out
+pub sound_marked : {W : Type 0} (g : Ghosts W) (p q : Plan W) → Sound g p → SameUnits p q → (k : ℕ) (b : Bool) (d : Link W) → k < p.link_count
+    → q.links.now ≡ set p.links.now k (with_mark (get_or p.links.now k d) b) → q.link_count ≡ p.link_count → q.total ≡ p.total → Sound g q
+sound_marked g p q s same k b d h links count total =
+    let joins = s.joins k d (omega arith) h in
+    let e = others g p s k _ h (get_or_default p.links.now k d _ (let m = s.memory in let n = s.short in omega arith)) in
+    sound_changed g p q s same k (λ l. with_mark l b) d h links count
+        (record { first = joins.first; second = joins.second; apart = joins.apart; weighty = joins.weighty })
+        (total ∙ sym e)
+        (let l = s.limited in omega arith)
 
 module _ {W : Type 0} (marks : List ℕ) (before : Plan W) where
   pub marked_none : MarkedTo marks before 0 before
   marked_none = record { marked = λ j d lt. absurd (omega arith); rest = λ j d le. refl; size = refl; units = refl; unit_count = refl; link_count = refl; total = refl }
 
   -- one link more
-  pub marked_more : (i : ℕ) (p q : Plan W) → MarkedTo marks before i p → i < length p.links.now
-      → ((d : Link W) → q.links.now ≡ set p.links.now i (with_mark (get_or p.links.now i d) (eqb (get_or marks i 0) 1)))
-      → q.units ≡ p.units → q.unit_count ≡ p.unit_count → q.link_count ≡ p.link_count → q.total ≡ p.total → MarkedTo marks before (i + 1) q
-  marked_more i p q m room is units unit_count link_count total = record {
+  pub marked_more : (i : ℕ) (b : Bool) (p q : Plan W) (e : Link W) → MarkedTo marks before i p → i < length p.links.now → b ≡ eqb (get_or marks i 0) 1
+      → q.links.now ≡ set p.links.now i (with_mark (get_or p.links.now i e) b)
+      → SameUnits p q → q.link_count ≡ p.link_count → q.total ≡ p.total → MarkedTo marks before (i + 1) q
+  marked_more i b p q e m room mark is same link_count total = record {
     marked = λ j d lt. ⊎_elim
-        (λ (e : j ≡ i). subst (λ k. get_or q.links.now k d ≡ with_mark (get_or before.links.now k d) (eqb (get_or marks k 0) 1)) (sym e)
-        (ap (λ ls. get_or ls i d) (is d) ∙ get_or-set_same _ i _ d room ∙ ap (λ l. with_mark l (eqb (get_or marks i 0) 1)) (m.rest i d (omega arith))))
-        (λ (ne : j ≡ i → ⊥). let l : j < i = omega (arith, ne) in ap (λ ls. get_or ls j d) (is d) ∙ get_or-set_other _ i j _ d ne ∙ m.marked j d l)
+        (λ (here : j ≡ i). subst (λ k. get_or q.links.now k d ≡ with_mark (get_or before.links.now k d) (eqb (get_or marks k 0) 1)) (sym here)
+        (ap (λ ls. get_or ls i d) is ∙ get_or-set_same _ i _ d room ∙ ap₂ with_mark (get_or_default p.links.now i e d room ∙ m.rest i d (omega arith)) mark))
+        (λ (ne : j ≡ i → ⊥). let l : j < i = omega (arith, ne) in ap (λ ls. get_or ls j d) is ∙ get_or-set_other _ i j _ d ne ∙ m.marked j d l)
         (cases_eq j i);
-    rest = λ j d le. ap (λ ls. get_or ls j d) (is d) ∙ get_or-set_other _ i j _ d (λ e. omega arith) ∙ m.rest j d (omega arith);
-    size = same_size p.links.now q.links.now i (λ l. with_mark l (eqb (get_or marks i 0) 1)) room is ∙ m.size;
-    units = units ∙ m.units;
-    unit_count = unit_count ∙ m.unit_count;
+    rest = λ j d le. ap (λ ls. get_or ls j d) is ∙ get_or-set_other _ i j _ d (λ e. omega arith) ∙ m.rest j d (omega arith);
+    size = ap length is ∙ length-set _ i _ ∙ m.size;
+    units = same.units ∙ m.units;
+    unit_count = same.count ∙ m.unit_count;
     link_count = link_count ∙ m.link_count;
     total = total ∙ m.total;
   }

@@ -1,5 +1,6 @@
 -- What weigh is refused with, and what it answers.
-use Rattle.std.specs.Prelude.{ℕ, ◌+◌, Bool, true, cond, ◌&&◌, List, [], ◌∷◌, map, length, Option, ◌==◌, nat_le, nat_lt, slice_index}
+use Rattle.std.specs.Prelude.{ℕ, Bool, ◌&&◌, List, map, length, Option, count_by, ◌==◌, nat_le, nat_lt, slice_index}
+use Rattle.std.specs.List.{list_all}
 use Rattle.refusals.specs.declared.Refusal.{Refusal}
 use Rattle.refusals.specs.declared.Refusal.TheVariants.{BadMark, NoDivision}
 use Rattle.weights.specs.declared.weight.Weight.{Ghosts}
@@ -24,13 +25,11 @@ side_of marks u = slice_index marks u == 1
 
 -- every mark is 0 or 1
 abbrev pub are_marks : List ℕ → Bool
-are_marks [] = true
-are_marks (m ∷ ms) = nat_lt m 2 && are_marks ms
+are_marks ms = list_all (λ m. nat_lt m 2) ms
 
 -- how many marks are 1
 abbrev pub marks_count : List ℕ → ℕ
-marks_count [] = 0
-marks_count (m ∷ ms) = cond (m == 1) 1 0 + marks_count ms
+marks_count ms = count_by (λ m. m == 1) ms
 
 -- weigh: 15 below two units, 14, then 15 if none or all are marked
 abbrev pub weigh_verdict : {W : Type 0} → Model W → List ℕ → Option Refusal

@@ -2,5 +2,4 @@ pub mod Calls
 pub mod Divided
 pub mod Marks
 pub mod Model
-pub mod Shifts
 pub mod Sound

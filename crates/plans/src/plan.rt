@@ -33,7 +33,7 @@ pub struct Link<W> {
 // past them is unsettled.
 #[derive(Drop)]
 pub struct Plan<'a, W> {
-    units: [Unit; 64],
+    units: [Unit; UNITS],
     unit_count: usize,
     links: &'a mut [Link<W>],
     link_count: usize,

@@ -15,11 +15,8 @@ pub fn is_borne(units: &[Unit], count: usize, code: FaultCode, but: usize) -> bo
     requires { count ≤ length units.now }
     ensures { result ≡ borne_by_other but (bytes_of code) (map code_of (take count units.now)) }
 {
-    for k in 0..count {
-        if k == but {
-            continue;
-        }
-        if units[k].code == code {
+    for (k, unit) in units[..count].iter().enumerate() {
+        if k != but && unit.code == code {
             return true;
         }
     }

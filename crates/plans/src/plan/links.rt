@@ -3,52 +3,13 @@ ghost use Rattle.std.specs.Prelude.{◌≡◌, ℕ, ◌+◌, ◌<◌, ◌≤◌,
 ghost use Rattle.plans.specs.Calls.{Called, link_verdict, mark_verdict, reweigh_verdict, strike_verdict};
 ghost use Rattle.plans.specs.Marks.{Remarked, Shows, Untouched, with_mark};
 ghost use Rattle.plans.specs.Model.{linked, marked, model_of, reweighed, struck};
-ghost use Rattle.plans.specs.Shifts.{Shifted};
 ghost use Rattle.plans.specs.Sound.{Sound};
 
 use crate::plan::{LINKS, Link, Plan, TOTAL};
 use refusals::Refusal;
 use weights::weight::Weight;
 
-// Removes entry `k` of the first `count`; the later ones move down by one.
-fn remove_at<T: Copy>(items: &mut [T], count: usize, k: usize)
-    requires within { k < count }
-    requires fits { count ≤ length items.old }
-    ensures { Shifted items.old k count items.new }
-{
-    for i in k + 1..count {
-        items[i - 1] = items[i];
-    }
-}
-
 impl<'a, W: Weight> Plan<'a, W> {
-    // Writes a link to a place of the memory.
-    fn set_link(&mut self, at: usize, link: Link<W>)
-        requires { at < length self.old.links.now }
-        ensures links { self.new.links.now ≡ slice_set self.old.links.now at link }
-        ensures units { self.new.units ≡ self.old.units }
-        ensures unit_count { self.new.unit_count ≡ self.old.unit_count }
-        ensures link_count { self.new.link_count ≡ self.old.link_count }
-        ensures total { self.new.total ≡ self.old.total }
-    {
-        self.links[at] = link;
-    }
-
-    // Moves the links after one of them down by one place, over it.
-    fn move_down(&mut self, at: usize)
-        requires within { at < self.old.link_count }
-        requires fits { self.old.link_count ≤ length self.old.links.now }
-        ensures links { Shifted self.old.links.now at self.old.link_count self.new.links.now }
-        ensures length { length self.new.links.now ≡ length self.old.links.now }
-        ensures units { self.new.units ≡ self.old.units }
-        ensures unit_count { self.new.unit_count ≡ self.old.unit_count }
-        ensures link_count { self.new.link_count ≡ self.old.link_count }
-        ensures total { self.new.total ≡ self.old.total }
-    {
-        let count = self.link_count;
-        remove_at(self.links, count, at);
-    }
-
     // Adds a link in service between two units and answers its number: 9, 10, 11, 6, 12.
     pub fn link(&mut self, first: usize, second: usize, weight: W) -> Result<usize, Refusal>
         requires { Sound W.Weight self.old }
@@ -56,10 +17,7 @@ impl<'a, W: Weight> Plan<'a, W> {
         ensures called { Called (link_verdict (model_of self.old) W.Weight first second weight) (length (model_of self.old).links) (linked (record { first = first; second = second; in_service = true; weight = weight }) (model_of self.old)) self.old result self.new }
         ensures ends { OnOk result ((first < self.old.unit_count) × (second < self.old.unit_count)) }
     {
-        if first >= self.unit_count {
-            return Err(Refusal::NoSuchUnit);
-        }
-        if second >= self.unit_count {
+        if first >= self.unit_count || second >= self.unit_count {
             return Err(Refusal::NoSuchUnit);
         }
         if first == second {
@@ -76,13 +34,12 @@ impl<'a, W: Weight> Plan<'a, W> {
         if self.total + amount > TOTAL {
             return Err(Refusal::OverLimit);
         }
-        let link = Link {
+        self.links[at] = Link {
             first: first as u8,
             second: second as u8,
             in_service: true,
             weight,
         };
-        self.set_link(at, link);
         self.link_count = at + 1;
         self.total += amount;
         Ok(at)
@@ -95,7 +52,7 @@ impl<'a, W: Weight> Plan<'a, W> {
         ensures called { Called (strike_verdict (model_of self.old) link) tt (struck link (model_of self.old)) self.old result self.new }
     {
         let old = self.link_at(link)?;
-        self.move_down(link);
+        self.links.copy_within(link + 1..self.link_count, link);
         self.link_count -= 1;
         self.total -= old.weight.amount();
         Ok(())
@@ -116,25 +73,9 @@ impl<'a, W: Weight> Plan<'a, W> {
         if others + amount > TOTAL {
             return Err(Refusal::OverLimit);
         }
-        self.set_link(link, Link { weight, ..old });
+        self.links[link].weight = weight;
         self.total = others + amount;
         Ok(())
-    }
-
-    // Sets a link in service or out; there is such a link.
-    fn remark(&mut self, at: usize, in_service: bool)
-        requires sound { Sound W.Weight self.old }
-        requires within { at < self.old.link_count }
-        ensures sound { Sound W.Weight self.new }
-        ensures model { model_of self.new ≡ marked at in_service (model_of self.old) }
-        ensures links { (d : Link W) → self.new.links.now ≡ slice_set self.old.links.now at (with_mark (slice_index_or self.old.links.now at d) in_service) }
-        ensures units { self.new.units ≡ self.old.units }
-        ensures unit_count { self.new.unit_count ≡ self.old.unit_count }
-        ensures link_count { self.new.link_count ≡ self.old.link_count }
-        ensures total { self.new.total ≡ self.old.total }
-    {
-        let old = self.get(at);
-        self.set_link(at, Link { in_service, ..old });
     }
 
     // Sets a link in service (1) or out of service (0): 13, 14.
@@ -149,7 +90,7 @@ impl<'a, W: Weight> Plan<'a, W> {
         if mark > 1 {
             return Err(Refusal::BadMark);
         }
-        self.remark(link, mark == 1);
+        self.links[link].in_service = mark == 1;
         Ok(())
     }
 
@@ -162,8 +103,8 @@ impl<'a, W: Weight> Plan<'a, W> {
         ensures remarked { Remarked marks.now self.old self.new }
         ensures same { Shows marks.now (model_of self.old).links → Untouched self.old self.new }
     {
-        for i in 0..self.link_count {
-            self.remark(i, marks[i] == 1);
+        for (i, mark) in marks[..self.link_count].iter().enumerate() {
+            self.links[i].in_service = *mark == 1;
         }
     }
 }

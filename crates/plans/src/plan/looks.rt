@@ -32,7 +32,7 @@ impl<'a, W: Weight> Plan<'a, W> {
         requires { Sound W.Weight self.now }
         ensures { map code_of result.now ≡ (model_of self.now).codes }
     {
-        &self.units[0..self.unit_count]
+        &self.units[..self.unit_count]
     }
 
     // The links, by number.
@@ -42,7 +42,7 @@ impl<'a, W: Weight> Plan<'a, W> {
         ensures len { length result.now ≡ self.now.link_count }
         ensures joins { AllWithin (Joins W.Weight self.now.unit_count) result.now 0 (length result.now) }
     {
-        &self.links[0..self.link_count]
+        &self.links[..self.link_count]
     }
 
     // The link with a number: 13 if there is none.
@@ -54,15 +54,6 @@ impl<'a, W: Weight> Plan<'a, W> {
         if link >= self.link_count {
             return Err(Refusal::NoSuchLink);
         }
-        Ok(self.get(link))
-    }
-
-    // The link at a place of the memory.
-    pub(crate) fn get(&self, at: usize) -> Link<W>
-        requires { at < length self.now.links.now }
-        ensures { result ≡ slice_index_or self.now.links.now at result }
-    {
-        let links: &[Link<W>] = self.links;
-        links[at]
+        Ok(self.links[link])
     }
 }

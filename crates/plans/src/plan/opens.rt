@@ -4,7 +4,7 @@ ghost use Rattle.plans.specs.Calls.{accepted, check, most_links, reply_of};
 ghost use Rattle.plans.specs.Model.{model_of};
 ghost use Rattle.plans.specs.Sound.{Sound};
 
-use crate::plan::{LINKS, Link, Plan, Unit};
+use crate::plan::{LINKS, Link, Plan, UNITS, Unit};
 use codes::code::FaultCode;
 use refusals::Refusal;
 use weights::weight::Weight;
@@ -45,7 +45,7 @@ impl<'a, W: Weight> Plan<'a, W> {
             code: FaultCode::blank(),
         };
         Plan {
-            units: [blank; 64],
+            units: [blank; UNITS],
             unit_count: 0,
             links,
             link_count: 0,

@@ -1,7 +1,7 @@
 // The weight of a division.
-ghost use Rattle.std.specs.Prelude.{◌≡◌, ℕ, ◌<◌, ◌≤◌, true, false, map, length, MatchResult};
+ghost use Rattle.std.specs.Prelude.{◌≡◌, ℕ, ◌<◌, ◌≤◌, ◌&&◌, map, length};
 ghost use Rattle.std.specs.List.{AllWithin};
-ghost use Rattle.cuts.specs.Divisions.{weight_of};
+ghost use Rattle.cuts.specs.Divisions.{differ, weight_of};
 ghost use Rattle.plans.specs.Calls.{Answered, most_total};
 ghost use Rattle.cuts.specs.Kinds.{kind_of};
 ghost use Rattle.plans.specs.Divided.{are_marks, marks_count, side_of, valued, weigh_verdict, weighed};
@@ -12,20 +12,18 @@ use crate::plan::{Link, Plan};
 use refusals::Refusal;
 use weights::weight::{Weight, add};
 
-// How many marks are 1: 14 if one is neither 0 nor 1.
-fn count_marks(marks: &[u8]) -> Result<usize, Refusal>
-    ensures { MatchResult result (λ n. (are_marks marks.now ≡ true) × (n ≡ marks_count marks.now)) (λ e. (are_marks marks.now ≡ false) × (e ≡ Refusal.BadMark)) }
+// Whether every mark is 0 or 1.
+fn are_marks(marks: &[u8]) -> bool
+    ensures { result ≡ are_marks marks.now }
 {
-    let mut count = 0;
-    for mark in marks {
-        if *mark > 1 {
-            return Err(Refusal::BadMark);
-        }
-        if *mark == 1 {
-            count += 1;
-        }
-    }
-    Ok(count)
+    marks.iter().all(|mark| *mark < 2)
+}
+
+// How many marks are 1.
+fn marked_count(marks: &[u8]) -> usize
+    ensures { result ≡ marks_count marks.now }
+{
+    marks.iter().filter(|mark| **mark == 1).count()
 }
 
 // Whether a unit is marked.
@@ -36,6 +34,15 @@ fn side(marks: &[u8], unit: usize) -> bool
     marks[unit] == 1
 }
 
+// Whether a link is in service with exactly one end marked.
+fn is_cut<W: Weight>(link: &Link<W>, marks: &[u8]) -> bool
+    requires first { link.now.first < length marks.now }
+    requires second { link.now.second < length marks.now }
+    ensures { result ≡ (link.now.in_service && differ (side_of marks.now link.now.first) (side_of marks.now link.now.second)) }
+{
+    link.in_service && side(marks, link.first as usize) != side(marks, link.second as usize)
+}
+
 // The sum over the links in service with exactly one end marked.
 fn cut_weight<W: Weight>(links: &[Link<W>], marks: &[u8]) -> W
     requires ends { AllWithin (Joins W.Weight (length marks.now)) links.now 0 (length links.now) }
@@ -43,15 +50,10 @@ fn cut_weight<W: Weight>(links: &[Link<W>], marks: &[u8]) -> W
     ensures { W.Weight.value result ≡ weight_of (kind_of W.Weight) (map (valued W.Weight) links.now) (side_of marks.now) }
 {
     let mut sum = W::nothing();
-    for i in 0..links.len() {
-        let link = links[i];
-        if !link.in_service {
-            continue;
+    for link in links {
+        if is_cut(link, marks) {
+            sum = add(sum, link.weight);
         }
-        if side(marks, link.first as usize) == side(marks, link.second as usize) {
-            continue;
-        }
-        sum = add(sum, link.weight);
     }
     sum
 }
@@ -66,10 +68,10 @@ impl<'a, W: Weight> Plan<'a, W> {
         if units < 2 {
             return Err(Refusal::NoDivision);
         }
-        if marks.len() != units {
+        if marks.len() != units || !are_marks(marks) {
             return Err(Refusal::BadMark);
         }
-        let count = count_marks(marks)?;
+        let count = marked_count(marks);
         if count == 0 || count == units {
             return Err(Refusal::NoDivision);
         }

@@ -1,25 +1,27 @@
-use Rattle.std.proofs.Common.{◌≡◌, ◌<◌, length, subst, arith}
-use Rattle.plans.proofs.Marking.{MarkedTo, marked_none, marked_more, marked_all, remarked_same}
+use Rattle.std.proofs.Common.{◌≡◌, ◌<◌, eqb, length, ap, refl, subst, arith}
+use Rattle.std.proofs.lemmas.List.{get_or-take, length-take-le}
+use Rattle.plans.proofs.Marking.{MarkedTo, sound_marked, marked_more, marked_all, remarked_same}
 use Rattle.plans.proofs.plan.Plan.put_marks.Goals as goal
-
-pub loop-i-init : goal.loop-i-init
-loop-i-init g c = (c.requires.sound, marked_none _ _)
-
-pub remark-requires : goal.remark-requires
-remark-requires g c = let is = c.loop-i.invariant.1.link_count in record { sound = c.loop-i.invariant.0; within = omega arith }
 
 pub loop-i-preserved : goal.loop-i-preserved
 loop-i-preserved g c =
-    let e = c.remark.ensures in
+    let p = c.loop-i.self in
+    let i = c.loop-i.i in
     let sound = c.loop-i.invariant.0 in
-    let is = c.loop-i.invariant.1.link_count in
-    let room : c.loop-i.i < length c.loop-i.self.links.now = let m = sound.memory in let h = sound.short in omega arith in
-    (e.sound, marked_more c.args.marks.now c.args.self.now c.loop-i.i c.loop-i.self c.remark.new.self c.loop-i.invariant.1 room e.links e.units e.unit_count e.link_count e.total)
+    let m = c.loop-i.invariant.1 in
+    let is = m.link_count in
+    let n = length-take-le c.args.self.now.link_count c.args.marks.now (omega arith) in
+    let within : i < p.link_count = omega arith in
+    let room : i < length p.links.now = let a = sound.memory in let h = sound.short in omega arith in
+    let mark = ap (λ n. eqb n 1) (get_or-take c.args.self.now.link_count c.args.marks.now i 0 (omega arith)) in
+    (sound_marked g.W.Weight p _ sound (record { units = refl; count = refl }) i _ c.index-self-i.result within refl refl refl,
+    marked_more c.args.marks.now c.args.self.now i _ p _ c.index-self-i.result m room mark refl (record { units = refl; count = refl }) refl refl)
 
 pub returns : goal.returns
 returns g c =
     let marks = c.args.marks.now in
     let before = c.args.self.now in
+    let n = length-take-le before.link_count marks (omega arith) in
     let all : c.loop-i.i ≡ before.link_count = omega arith in
     let m = subst (λ i. MarkedTo marks before i c.loop-i.self) all c.loop-i.invariant.1 in
     let r = marked_all marks before c.loop-i.self m in
