@@ -1,6 +1,7 @@
 -- A plan stays sound where one link is added, changed or removed, and what it then stands for.
 use Rattle.std.proofs.Common.{◌≡◌, ℕ, ◌+◌, ◌-◌, ◌<◌, ◌≤◌, [], ◌∷◌, ◌++◌, map, length, get_or, take, drop, set, Ok, Option, refl, sym, ap, ◌∙◌, subst, ap₂, ⊎_elim, add-one, arith}
 use Rattle.std.proofs.lemmas.Bool.{cases_lt}
+use Rattle.std.proofs.lemmas.Bool.Decides.{nat_tests}
 use Rattle.std.specs.List.{remove, AllWithin, CopiedTo, SameBelow}
 use Rattle.std.proofs.lemmas.List.Elements.{AllWithin-more_set, AllWithin-set}
 use Rattle.std.proofs.lemmas.List.{length-set, take_more_set, get_or-take, take-take}
@@ -8,15 +9,14 @@ use Rattle.weights.specs.declared.weight.Weight.{Ghosts}
 use Rattle.plans.specs.declared.plan.Link.{Link}
 use Rattle.plans.specs.declared.plan.Plan.{Plan}
 use Rattle.refusals.specs.declared.Refusal.{Refusal}
-use Rattle.refusals.specs.declared.Refusal.TheVariants.{NoSuchLink}
 use Rattle.plans.specs.Calls.{accepted, strike_verdict, Called}
 use Rattle.plans.specs.Model.{model_of, code_of, amount_of, total_of, changed, linked, struck}
 use Rattle.plans.specs.Sound.{Joins, Sound, Distinct}
 use Rattle.plans.proofs.Apart.{take_of_set}
-use Rattle.plans.proofs.Linking.{link_size_lem, others, there}
+use Rattle.plans.proofs.Linking.{link_size_lem, others}
 use Rattle.plans.proofs.Shifts.{front, every_left}
 use Rattle.plans.proofs.Totals.{total_append, total_changed, set_changes}
-use Rattle.plans.proofs.Verdicts.{accepts, passes}
+use Rattle.plans.proofs.Verdicts.{accepts}
 
 pub positive : {b : ℕ} (a : ℕ) → a ≡ b → (a ≡ 0 → ⊥) → 0 < b
 positive a e ne = ⊎_elim (λ (l : 0 < a). omega arith) (λ (l : a ≤ 0). absurd (ne (omega arith))) (cases_lt 0 a)
@@ -97,7 +97,7 @@ module _ {W : Type 0} (g : Ghosts W) (p q : Plan W) (s : Sound g p) (u : SameUni
         ∙ ap₂ (λ n xs. xs ++ drop n (model_of p).links) (add-one k) (sym (take-take k p.link_count p.links.now (omega arith))))
 
     pub accepts_struck : Called {X = Unit {0}} (strike_verdict (model_of p) k) tt (struck k (model_of p)) p (Ok tt) q
-    accepts_struck = accepts {X = Unit {0}} tt _ p tt q refl (passes NoSuchLink _ (there g p s k in-it)) (ap₂ (λ cs ls. record { codes = cs; links = ls }) same_codes taken_out)
+    accepts_struck = accepts {X = Unit {0}} tt _ p tt q refl (let n = link_size_lem g p s in grind (arith, nat_tests)) (ap₂ (λ cs ls. record { codes = cs; links = ls }) same_codes taken_out)
 
     pub sound_struck : (d : Link W) → d ≡ get_or p.links.now k d → q.total + amount_of g d.weight ≡ p.total → Sound g q
     sound_struck d is total =

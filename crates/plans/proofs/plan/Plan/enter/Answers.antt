@@ -1,37 +1,12 @@
-use Rattle.std.proofs.Common.{not, length, sym, ap, ◌∙◌, subst, arith}
+use Rattle.std.proofs.Common.{length, sym, ap, ◌∙◌, subst, arith}
 use Rattle.std.proofs.lemmas.List.{length-set}
-use Rattle.std.proofs.lemmas.Bool.{lt-ltb, le-ltb}
-use Rattle.refusals.specs.declared.Refusal.TheVariants.{NotACode, CodeTaken, Full}
+use Rattle.std.proofs.lemmas.Bool.Decides.{nat_tests}
 use Rattle.plans.specs.Model.{model_of, entered}
 use Rattle.plans.specs.Sound.{Distinct}
 use Rattle.plans.proofs.Apart.{codes_more, distinct_more}
 use Rattle.plans.proofs.Bearing.{length_codes, bearer_is}
-use Rattle.plans.proofs.Verdicts.{fails, passes, accepts, refuses}
+use Rattle.plans.proofs.Verdicts.{accepts}
 use Rattle.plans.proofs.plan.Plan.enter.Goals as goal
-
-pub returns-then-is_borne : goal.returns-then-is_borne
-returns-then-is_borne g c =
-    let p = c.args.self.now in
-    let text = c.args.text.now in
-    let code = c.in_ok-code.ensures.cases in
-    let borne = bearer_is p.units p.unit_count text _ _ (omega arith) code.1 c.is_borne.ensures ∙ c.if-is_borne.true in
-    record {
-      sound = c.requires;
-      called = refuses (length (model_of p).codes) (entered text (model_of p)) p (passes NotACode _ code.0 ∙ fails CodeTaken _ (ap not borne));
-    }
-
-pub returns-then-at-ge-UNITS : goal.returns-then-at-ge-UNITS
-returns-then-at-ge-UNITS g c =
-    let p = c.args.self.now in
-    let text = c.args.text.now in
-    let code = c.in_ok-code.ensures.cases in
-    let size = length_codes p.unit_count p.units (omega arith) in
-    let free = bearer_is p.units p.unit_count text _ _ (omega arith) code.1 c.is_borne.ensures ∙ c.if-is_borne.false in
-    record {
-      sound = c.requires;
-      called = refuses (length (model_of p).codes) (entered text (model_of p)) p
-          (passes NotACode _ code.0 ∙ (passes CodeTaken _ (ap not free) ∙ fails Full _ (le-ltb (length (model_of p).codes) 64 (omega arith))));
-    }
 
 pub returns : goal.returns
 returns g c =
@@ -53,7 +28,6 @@ returns g c =
         counted = c.requires.counted;
         limited = c.requires.limited;
       };
-      called = accepts (length (model_of p).codes) (entered text (model_of p)) p n _ (sym size)
-          (passes NotACode _ code.0 ∙ (passes CodeTaken _ (ap not free) ∙ passes Full _ (lt-ltb (length (model_of p).codes) 64 (omega arith))))
+      called = accepts (length (model_of p).codes) (entered text (model_of p)) p n _ (sym size) (grind (arith, nat_tests))
           (ap (λ cs. record { codes = cs; links = (model_of p).links }) codes);
     }

@@ -1,33 +1,36 @@
-use Rattle.std.proofs.Common.{length, inl, inr, refl, arith}
+use Rattle.std.proofs.Common.{length, refl, arith}
+use Rattle.std.proofs.lemmas.Bool.Decides.{nat_tests}
 use Rattle.plans.specs.Model.{model_of, linked}
 use Rattle.plans.proofs.Keeping.{sound_linked, positive}
-use Rattle.plans.proofs.Linking.{no_unit, self_link, full, over}
+use Rattle.plans.proofs.Linking.{unit_size, link_size_lem}
 use Rattle.plans.proofs.Verdicts.{refuses}
 use Rattle.plans.proofs.plan.Plan.link.Goals as goal
-use Rattle.plans.proofs.plan.Plan.link.Goals.{then-first-self-via-then-first-self, then-first-self-via-else-first-self+then-second-self}
 
 pub returns-then-first-self-clause-called : goal.returns-then-first-self-clause-called
 returns-then-first-self-clause-called g c =
     let p = c.args.self.now in
-    refuses (length (model_of p).links) (linked _ (model_of p)) p (no_unit g.W.Weight p c.requires c.args.first c.args.second c.args.weight (elim c.then-first-self.branch [
-      | then-first-self-via-then-first-self w ↦ inl w.if-first-self.true
-      | then-first-self-via-else-first-self+then-second-self w ↦ inr w.if-second-self.true
-    ]))
+    let units = unit_size g.W.Weight p c.requires in
+    refuses (length (model_of p).links) (linked _ (model_of p)) p (grind (arith, nat_tests))
 
 pub returns-then-first-second-clause-called : goal.returns-then-first-second-clause-called
 returns-then-first-second-clause-called g c =
     let p = c.args.self.now in
-    refuses (length (model_of p).links) (linked _ (model_of p)) p (self_link g.W.Weight p c.requires c.args.first c.args.second c.args.weight c.if-first-self.false c.if-second-self.false c.if-first-second.true)
+    let units = unit_size g.W.Weight p c.requires in
+    refuses (length (model_of p).links) (linked _ (model_of p)) p (grind (arith, nat_tests))
 
 pub returns-then-at-ge-LINKS-clause-called : goal.returns-then-at-ge-LINKS-clause-called
 returns-then-at-ge-LINKS-clause-called g c =
     let p = c.args.self.now in
-    refuses (length (model_of p).links) (linked _ (model_of p)) p (full g.W.Weight p c.requires c.args.first c.args.second c.args.weight c.if-first-self.false c.if-second-self.false c.if-first-second.false (λ e. c.if-amount-eq0.false (omega arith)) (omega arith))
+    let units = unit_size g.W.Weight p c.requires in
+    let links = link_size_lem g.W.Weight p c.requires in
+    refuses (length (model_of p).links) (linked _ (model_of p)) p (grind (arith, nat_tests))
 
 pub returns-then-self-amount-gt-TOTAL-clause-called : goal.returns-then-self-amount-gt-TOTAL-clause-called
 returns-then-self-amount-gt-TOTAL-clause-called g c =
     let p = c.args.self.now in
-    refuses (length (model_of p).links) (linked _ (model_of p)) p (over g.W.Weight p c.requires c.args.first c.args.second c.args.weight c.if-first-self.false c.if-second-self.false c.if-first-second.false (λ e. c.if-amount-eq0.false (omega arith)) (omega arith) (omega arith))
+    let units = unit_size g.W.Weight p c.requires in
+    let links = link_size_lem g.W.Weight p c.requires in
+    refuses (length (model_of p).links) (linked _ (model_of p)) p (grind (arith, nat_tests))
 
 pub returns-clause-sound : goal.returns-clause-sound
 returns-clause-sound g c =

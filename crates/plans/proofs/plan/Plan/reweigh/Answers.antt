@@ -1,7 +1,8 @@
 use Rattle.std.proofs.Common.{refl, arith}
+use Rattle.std.proofs.lemmas.Bool.Decides.{nat_tests}
 use Rattle.plans.specs.Model.{model_of, reweighed}
 use Rattle.plans.proofs.Keeping.{sound_changed, accepts_changed, positive}
-use Rattle.plans.proofs.Linking.{others, re_over, re_fine}
+use Rattle.plans.proofs.Linking.{link_size_lem, others}
 use Rattle.plans.proofs.Verdicts.{refuses}
 use Rattle.plans.proofs.plan.Plan.reweigh.Goals as goal
 
@@ -16,7 +17,8 @@ returns-then-others-amount-gt-TOTAL-clause-called g c =
     let p = c.args.self.now in
     let was = c.in_ok-old.ensures.value in
     let e = others g.W.Weight p c.requires c.args.link c.in_ok-old.old was.0 was.1 in
-    refuses tt (reweighed c.args.link c.args.weight (model_of p)) p (re_over g.W.Weight p c.requires c.args.link was.0 c.args.weight (λ z. c.if-amount-eq0.false (omega arith)) (omega arith))
+    let links = link_size_lem g.W.Weight p c.requires in
+    refuses tt (reweighed c.args.link c.args.weight (model_of p)) p (grind (arith, nat_tests))
 
 pub returns-clause-sound : goal.returns-clause-sound
 returns-clause-sound g c =
@@ -36,5 +38,5 @@ returns-clause-called g c =
     let p = c.args.self.now in
     let was = c.in_ok-old.ensures.value in
     let e = others g.W.Weight p c.requires c.args.link c.in_ok-old.old was.0 was.1 in
-    accepts_changed g.W.Weight p _ c.requires (record { units = refl; count = refl }) c.args.link (λ l. record { first = l.first; second = l.second; in_service = l.in_service; weight = c.args.weight }) c.index-self-link.result was.0 refl refl
-    (re_fine g.W.Weight p c.requires c.args.link was.0 c.args.weight (λ z. c.if-amount-eq0.false (omega arith)) (omega arith))
+    let links = link_size_lem g.W.Weight p c.requires in
+    accepts_changed g.W.Weight p _ c.requires (record { units = refl; count = refl }) c.args.link (λ l. record { first = l.first; second = l.second; in_service = l.in_service; weight = c.args.weight }) c.index-self-link.result was.0 refl refl (grind (arith, nat_tests))
