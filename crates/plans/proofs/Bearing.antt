@@ -1,6 +1,6 @@
 -- Codes of a table of units, and whether one bears a code.
-use Rattle.std.proofs.Common.{◌≡◌, ℕ, zero, suc, ◌+◌, ◌<◌, ◌≤◌, Bool, true, false, not, ◌&&◌, ◌||◌, eqb, List, [], ◌∷◌, map, length, get_or, take, drop, Decides, sym, refl, ap, ◌∙◌, ⊎_elim, suc-add, add-one, arith}
-use Rattle.std.proofs.lemmas.List.{length-map, length-take-le}
+use Rattle.std.proofs.Common.{◌≡◌, ℕ, ◌+◌, ◌<◌, ◌≤◌, Bool, true, false, not, ◌&&◌, ◌||◌, eqb, List, [], ◌∷◌, map, length, get_or, take, drop, Decides, sym, refl, ap, ◌∙◌, ⊎_elim, add-one}
+use Rattle.std.proofs.lemmas.List.{length-map, length-take-le, drop-map, drop_more}
 use Rattle.std.proofs.lemmas.Bool.{eq-eqb, ne_eqb, eqb-true, and_from, and_parts, and_right, or_left, cases_Bool, both_ways}
 use Rattle.plans.specs.declared.plan.Unit.{Unit}
 use Rattle.plans.specs.Model.{code_of, same_text, borne_from, borne_by_other}
@@ -24,9 +24,7 @@ same_decides a b false h = ⊎_elim (λ (e : same_text a b ≡ true). absurd (bo
 
 -- one unit after the other
 pub drop_map : {X Y : Type 0} (f : X → Y) (xs : List X) (i : ℕ) (d : X) → i < length xs → drop i (map f xs) ≡ f (get_or xs i d) ∷ drop (i + 1) (map f xs)
-drop_map f [] i d h = absurd (omega arith)
-drop_map f (x ∷ xs) zero d h = refl
-drop_map f (x ∷ xs) (suc i) d h = drop_map f xs i d (omega arith) ∙ ap (λ n. f (get_or xs i d) ∷ drop n (f x ∷ map f xs)) (sym (suc-add i 1))
+drop_map f xs i d h = simp drop-map (ap (map f) (drop_more xs i d h))
 
 -- the search for a bearer, at unit i
 module _ (text : List ℕ) (but : ℕ) (us : List Unit) (i : ℕ) (d : Unit) (h : i < length us) where

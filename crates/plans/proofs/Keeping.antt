@@ -1,6 +1,6 @@
 -- A plan stays sound where one link is added, changed or removed, and what it then stands for.
-use Rattle.std.proofs.Common.{◌≡◌, ℕ, ◌+◌, ◌-◌, ◌<◌, ◌≤◌, [], ◌∷◌, ◌++◌, map, length, get_or, take, drop, set, Ok, Option, refl, sym, ap, ◌∙◌, subst, ap₂, ⊎_elim, add-one, arith}
-use Rattle.std.proofs.lemmas.Bool.{cases_lt}
+use Rattle.std.proofs.Common.{◌≡◌, ℕ, ◌+◌, ◌-◌, ◌<◌, ◌≤◌, [], ◌∷◌, ◌++◌, map, length, get_or, take, drop, set, Ok, Option, refl, sym, ap, ◌∙◌, subst, ap₂, add-one, arith}
+use Rattle.std.proofs.Math.Seq.{take-set-lt}
 use Rattle.std.proofs.lemmas.Bool.Decides.{nat_tests}
 use Rattle.std.specs.List.{remove, AllWithin, CopiedTo, SameBelow}
 use Rattle.std.proofs.lemmas.List.Elements.{AllWithin-more_set, AllWithin-set}
@@ -10,19 +10,12 @@ use Rattle.plans.specs.declared.plan.Link.{Link}
 use Rattle.plans.specs.declared.plan.Plan.{Plan}
 use Rattle.refusals.specs.declared.Refusal.{Refusal}
 use Rattle.plans.specs.Calls.{accepted, strike_verdict, Called}
-use Rattle.plans.specs.Model.{model_of, code_of, amount_of, total_of, changed, linked, struck}
+use Rattle.plans.specs.Model.{model_of, code_of, amount_of, total_of, changed, struck}
 use Rattle.plans.specs.Sound.{Joins, Sound, Distinct}
-use Rattle.plans.proofs.Apart.{take_of_set}
 use Rattle.plans.proofs.Linking.{link_size_lem, others}
 use Rattle.plans.proofs.Shifts.{front, every_left}
 use Rattle.plans.proofs.Totals.{total_append, total_changed, set_changes}
 use Rattle.plans.proofs.Verdicts.{accepts}
-
-pub positive : {b : ℕ} (a : ℕ) → a ≡ b → (a ≡ 0 → ⊥) → 0 < b
-positive a e ne = ⊎_elim (λ (l : 0 < a). omega arith) (λ (l : a ≤ 0). absurd (ne (omega arith))) (cases_lt 0 a)
-
-pub strictly : (a b : ℕ) → a ≤ b → (a ≡ b → ⊥) → a < b
-strictly a b h ne = ⊎_elim (λ (l : a < b). l) (λ (l : b ≤ a). absurd (ne (omega arith))) (cases_lt a b)
 
 -- the units of q are those of p
 pub record SameUnits {W : Type 0} (p q : Plan W) : Type 0 where
@@ -53,9 +46,6 @@ module _ {W : Type 0} (g : Ghosts W) (p q : Plan W) (s : Sound g p) (u : SameUni
     added : (model_of q).links ≡ (model_of p).links ++ (l ∷ [])
     added = ap₂ take count links ∙ take_more_set p.links.now p.link_count l within
 
-    pub model_linked : model_of q ≡ linked l (model_of p)
-    model_linked = ap₂ (λ cs ls. record { codes = cs; links = ls }) same_codes added
-
     pub sound_linked : Joins g p.unit_count l → q.total ≡ p.total + amount_of g l.weight → p.total + amount_of g l.weight ≤ 1000000 → Sound g q
     sound_linked joins total limited =
         let t = total_append g (model_of p).links (l ∷ []) in
@@ -70,7 +60,7 @@ module _ {W : Type 0} (g : Ghosts W) (p q : Plan W) (s : Sound g p) (u : SameUni
     at = get_or-take p.link_count p.links.now k d in-it
 
     replaced : (model_of q).links ≡ changed k f (model_of p).links
-    replaced = ap₂ take count links ∙ (take_of_set p.link_count p.links.now k _ ∙ (ap (λ x. set (model_of p).links k (f x)) (sym at) ∙ set_changes (model_of p).links k f d))
+    replaced = ap₂ take count links ∙ (take-set-lt p.link_count p.links.now k _ in-it ∙ (ap (λ x. set (model_of p).links k (f x)) (sym at) ∙ set_changes (model_of p).links k f d))
 
     model_changed : model_of q ≡ record { codes = (model_of p).codes; links = changed k f (model_of p).links }
     model_changed = ap₂ (λ cs ls. record { codes = cs; links = ls }) same_codes replaced

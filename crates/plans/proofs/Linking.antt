@@ -1,18 +1,14 @@
 -- How many units and links the model has, and what the plan counts without one of its links.
-use Rattle.std.proofs.Common.{◌≡◌, ℕ, ◌+◌, ◌<◌, ◌≤◌, true, not, ◌&&◌, ◌⊎◌, ltb, leb, length, get_or, Some, sym, ap, ◌∙◌, ⊎_elim, arith}
+use Rattle.std.proofs.Common.{◌≡◌, ℕ, ◌+◌, ◌<◌, length, get_or, sym, ap, ◌∙◌, arith}
 use Rattle.std.specs.List.{remove}
 use Rattle.std.proofs.lemmas.List.{length-take-le, get_or-take}
-use Rattle.std.proofs.lemmas.Bool.{lt-ltb, le-ltb, le-leb, lt-leb, eq-eqb, ne_eqb, and_from, and_left, and_right}
-use Rattle.refusals.specs.declared.Refusal.TheVariants.{NoSuchUnit, SelfLink, NoWeight, Full, OverLimit, NoSuchLink}
 use Rattle.weights.specs.declared.weight.Weight.{Ghosts}
 use Rattle.plans.specs.declared.plan.Link.{Link}
 use Rattle.plans.specs.declared.plan.Plan.{Plan}
-use Rattle.plans.specs.Calls.{accepted, check, link_verdict, reweigh_verdict}
 use Rattle.plans.specs.Model.{model_of, amount_of, total_of}
 use Rattle.plans.specs.Sound.{Sound}
 use Rattle.plans.proofs.Bearing.{length_codes}
 use Rattle.plans.proofs.Totals.{total_removed}
-use Rattle.plans.proofs.Verdicts.{fails, passes}
 
 module _ {W : Type 0} (g : Ghosts W) (p : Plan W) (s : Sound g p) where
   pub unit_size : length (model_of p).codes ≡ p.unit_count

@@ -33,9 +33,6 @@ sound_marked g p q s same k b d h links count total =
         (let l = s.limited in omega arith)
 
 module _ {W : Type 0} (marks : List ℕ) (before : Plan W) where
-  pub marked_none : MarkedTo marks before 0 before
-  marked_none = record { marked = λ j d lt. absurd (omega arith); rest = λ j d le. refl; size = refl; units = refl; unit_count = refl; link_count = refl; total = refl }
-
   -- one link more
   pub marked_more : (i : ℕ) (b : Bool) (p q : Plan W) (e : Link W) → MarkedTo marks before i p → i < length p.links.now → b ≡ eqb (get_or marks i 0) 1
       → q.links.now ≡ set p.links.now i (with_mark (get_or p.links.now i e) b)

@@ -30,7 +30,7 @@ pub struct Link<W> {
 }
 
 // The first `unit_count` units and the first `link_count` links are the plan's; what the memory holds
-// past them is unsettled.
+// past them is unsettled. No heap: units lie in fixed memory and links in lent memory, so each count stands beside.
 #[derive(Drop)]
 pub struct Plan<'a, W> {
     units: [Unit; UNITS],

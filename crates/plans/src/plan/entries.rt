@@ -23,7 +23,7 @@ pub fn is_borne(units: &[Unit], count: usize, code: FaultCode, but: usize) -> bo
     false
 }
 
-// Gives one unit another code.
+// Gives one unit another code. A function over the table, since the rules want the one element lent mutably.
 fn recode_at(units: &mut [Unit], k: usize, code: FaultCode)
     requires { k < length units.old }
     ensures { units.new ≡ set units.old k (record { code = code }) }

@@ -1,7 +1,7 @@
 use Rattle.std.proofs.Common.{length, refl, arith}
 use Rattle.std.proofs.lemmas.Bool.Decides.{nat_tests}
 use Rattle.plans.specs.Model.{model_of, linked}
-use Rattle.plans.proofs.Keeping.{sound_linked, positive}
+use Rattle.plans.proofs.Keeping.{sound_linked}
 use Rattle.plans.proofs.Linking.{unit_size, link_size_lem}
 use Rattle.plans.proofs.Verdicts.{refuses}
 use Rattle.plans.proofs.plan.Plan.link.Goals as goal
@@ -36,5 +36,5 @@ pub returns-clause-sound : goal.returns-clause-sound
 returns-clause-sound g c =
     let a = c.amount-amount.ensures in
     sound_linked g.W.Weight c.args.self.now _ c.requires (record { units = refl; count = refl }) _ refl refl c.if-at-ge-LINKS.false
-        (record { first = c.if-first-self.false; second = c.if-second-self.false; apart = c.if-first-second.false; weighty = positive c.amount-amount.result a c.if-amount-eq0.false })
+        (record { first = c.if-first-self.false; second = c.if-second-self.false; apart = c.if-first-second.false; weighty = omega arith })
         (omega arith) (omega arith)

@@ -16,7 +16,7 @@ returns g c =
     let code = c.in_ok-code.ensures.cases in
     let size = length_codes n p.units (omega arith) in
     let free = ap (λ t. borne_by_other c.args.unit t (model_of p).codes) (sym code.1) ∙ (sym c.is_borne.ensures ∙ c.if-is_borne.false) in
-    let codes = ap (λ us. map code_of (take n us)) c.recode_at.ensures ∙ codes_set p.units n c.args.unit (record { code = c.in_ok-code.code }) text code.1 in
+    let codes = ap (λ us. map code_of (take n us)) c.recode_at.ensures ∙ codes_set p.units n c.args.unit (record { code = c.in_ok-code.code }) text c.if-unit-self.false code.1 in
     record {
       sound = record {
         few = c.requires.few;

@@ -1,7 +1,7 @@
 use Rattle.std.proofs.Common.{refl, arith}
 use Rattle.std.proofs.lemmas.Bool.Decides.{nat_tests}
 use Rattle.plans.specs.Model.{model_of, reweighed}
-use Rattle.plans.proofs.Keeping.{sound_changed, accepts_changed, positive}
+use Rattle.plans.proofs.Keeping.{sound_changed, accepts_changed}
 use Rattle.plans.proofs.Linking.{link_size_lem, others}
 use Rattle.plans.proofs.Verdicts.{refuses}
 use Rattle.plans.proofs.plan.Plan.reweigh.Goals as goal
@@ -29,7 +29,7 @@ returns-clause-sound g c =
     let a = c.amount-amount.ensures in
     let joins = c.requires.joins k d (omega arith) was.0 in
     sound_changed g.W.Weight c.args.self.now _ c.requires (record { units = refl; count = refl }) k (λ l. record { first = l.first; second = l.second; in_service = l.in_service; weight = c.args.weight }) d was.0 refl refl
-        (record { first = joins.first; second = joins.second; apart = joins.apart; weighty = positive c.amount-amount.result a c.if-amount-eq0.false })
+        (record { first = joins.first; second = joins.second; apart = joins.apart; weighty = omega arith })
         (omega arith)
         (omega arith)
 
