@@ -28,9 +28,9 @@ sound_marked g p q s same k b d h links count total =
     let joins = s.joins k d (omega arith) h in
     let e = others g p s k _ h (get_or_default p.links.now k d _ (let m = s.memory in let n = s.short in omega arith)) in
     sound_changed g p q s same k (λ l. with_mark l b) d h links count
-        (record { first = joins.first; second = joins.second; apart = joins.apart; weighty = joins.weighty })
-        (total ∙ sym e)
-        (let l = s.limited in omega arith)
+    (record { first = joins.first; second = joins.second; apart = joins.apart; weighty = joins.weighty })
+    (total ∙ sym e)
+    (let l = s.limited in omega arith)
 
 module _ {W : Type 0} (marks : List ℕ) (before : Plan W) where
   -- one link more

@@ -36,5 +36,5 @@ pub returns-clause-sound : goal.returns-clause-sound
 returns-clause-sound g c =
     let a = c.amount-amount.ensures in
     sound_linked g.W.Weight c.args.self.now _ c.requires (record { units = refl; count = refl }) _ refl refl c.if-at-ge-LINKS.false
-        (record { first = c.if-first-self.false; second = c.if-second-self.false; apart = c.if-first-second.false; weighty = omega arith })
-        (omega arith) (omega arith)
+    (record { first = c.if-first-self.false; second = c.if-second-self.false; apart = c.if-first-second.false; weighty = omega arith })
+    (omega arith) (omega arith)

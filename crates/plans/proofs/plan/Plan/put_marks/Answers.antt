@@ -13,9 +13,10 @@ loop-i-preserved g c =
     let n = length-take-le c.args.self.now.link_count c.args.marks.now (omega arith) in
     let within : i < p.link_count = omega arith in
     let room : i < length p.links.now = let a = sound.memory in let h = sound.short in omega arith in
-    let mark = ap (λ n. eqb n 1) (get_or-take c.args.self.now.link_count c.args.marks.now i 0 (omega arith)) in
-    (sound_marked g.W.Weight p _ sound (record { units = refl; count = refl }) i _ c.index-self-i.result within refl refl refl,
-    marked_more c.args.marks.now c.args.self.now i _ p _ c.index-self-i.result m room mark refl (record { units = refl; count = refl }) refl refl)
+    let mark = ap (λ n. eqb n 1) (get_or-take c.args.self.now.link_count c.args.marks.now i 0 (omega arith)) in (
+      sound_marked g.W.Weight p _ sound (record { units = refl; count = refl }) i _ c.index-self-i.result within refl refl refl,
+      marked_more c.args.marks.now c.args.self.now i _ p _ c.index-self-i.result m room mark refl (record { units = refl; count = refl }) refl refl,
+    )
 
 pub returns : goal.returns
 returns g c =

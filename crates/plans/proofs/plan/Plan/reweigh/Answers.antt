@@ -29,9 +29,9 @@ returns-clause-sound g c =
     let a = c.amount-amount.ensures in
     let joins = c.requires.joins k d (omega arith) was.0 in
     sound_changed g.W.Weight c.args.self.now _ c.requires (record { units = refl; count = refl }) k (λ l. record { first = l.first; second = l.second; in_service = l.in_service; weight = c.args.weight }) d was.0 refl refl
-        (record { first = joins.first; second = joins.second; apart = joins.apart; weighty = omega arith })
-        (omega arith)
-        (omega arith)
+    (record { first = joins.first; second = joins.second; apart = joins.apart; weighty = omega arith })
+    (omega arith)
+    (omega arith)
 
 pub returns-clause-called : goal.returns-clause-called
 returns-clause-called g c =
