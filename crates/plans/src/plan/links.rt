@@ -1,7 +1,7 @@
 // The calls that name links.
-ghost use Rattle.std.specs.Prelude.{◌≡◌, ℕ, ◌+◌, ◌<◌, ◌≤◌, true, length, OnOk, ◌==◌, slice_index_or, slice_set};
+ghost use Rattle.std.specs.Prelude.{◌≡◌, ℕ, ◌+◌, ◌<◌, ◌≤◌, true, length, OnOk, ◌==◌};
 ghost use Rattle.plans.specs.Calls.{Called, link_verdict, mark_verdict, reweigh_verdict, strike_verdict};
-ghost use Rattle.plans.specs.Marks.{Remarked, Shows, Untouched, with_mark};
+ghost use Rattle.plans.specs.Marks.{Remarked, Shows, Untouched};
 ghost use Rattle.plans.specs.Model.{linked, marked, model_of, reweighed, struck};
 ghost use Rattle.plans.specs.Sound.{Sound};
 
