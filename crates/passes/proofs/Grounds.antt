@@ -1,14 +1,15 @@
 -- The tests of a pair, one by one, and the lowest ground.
-use Rattle.std.proofs.Common.{◌≡◌, ℕ, ◌<◌, Bool, true, false, ◌||◌, List, length, get_or, Some, None, Decides, MatchBool, refl, sym, subst, ap, ◌∙◌, ap₂, arith}
+use Rattle.std.proofs.Common.{◌≡◌, ℕ, ◌+◌, ◌<◌, ◌≤◌, Bool, true, false, ◌||◌, List, length, get_or, Some, None, Decides, MatchBool, refl, sym, subst, ap, ◌∙◌, ap₂, arith}
 use Rattle.std.specs.List.{HoldsAt, AllWithin, range_with_len}
 use Rattle.std.proofs.lemmas.Bool.{false≢true}
 use Rattle.std.proofs.lemmas.Bool.Decides.{Decides-at, Decides-or, not_from_Decides}
 use Rattle.std.proofs.lemmas.List.FromFn.{length-range_with_len, get_or-range_with_len}
+use Rattle.weights.specs.Laws.{limit}
 use Rattle.weights.specs.declared.weight.Weight.{Ghosts}
 use Rattle.cuts.specs.declared.entry.Entry.{Entry}
 use Rattle.cuts.specs.declared.ground.Ground.{Ground}
 use Rattle.cuts.specs.declared.ground.Ground.TheVariants.{Heavy, Unbalanced, Triangle, Neighbourhood, Scan}
-use Rattle.cuts.specs.Kinds.{Kind, kind_of}
+use Rattle.cuts.specs.Kinds.{Kind, Lawful, kind_of}
 use Rattle.cuts.specs.Links.{Link}
 use Rattle.cuts.specs.Numbers.{ground_number}
 use Rattle.cuts.specs.Tests.{gathered, Meets}
@@ -17,6 +18,7 @@ use Rattle.tables.specs.declared.groups.Groups.{Groups}
 use Rattle.tables.specs.Meaning.{at, Explains}
 use Rattle.passes.specs.Passed.{Standing, Apex, Judged}
 use Rattle.passes.proofs.Readings.{third_apart, joint_at, degree_low, degree_high}
+use Rattle.passes.proofs.Fits.{twice_fits}
 
 each : (P : Ground → Type 0) → P Heavy → P Unbalanced → P Triangle → P Neighbourhood → P Scan → (ground : Ground) → P ground
 each P a b c d e Heavy = a
@@ -86,13 +88,18 @@ module _ {V : Type 0} (K : Kind V) (n : ℕ) (ls : List (Link V)) (es : List Ent
 pub neighbourhood_decided : {V : Type 0} (K : Kind V) (n : ℕ) (ls : List (Link V)) (es : List Entry) (best : V) (u v k : ℕ) (s : V) (r : Bool) → s ≡ gathered K n ls es u v k → k ≡ n → r ≡ K.at_most best s → Decides r (Meets K n ls es best u v Neighbourhood)
 neighbourhood_decided K n ls es best u v k s r sum all t = Decides-at r _ (t ∙ ap (K.at_most best) (sum ∙ ap (gathered K n ls es u v) all)) (itself _)
 
-module _ {W : Type 0} {g : Ghosts W} {n : ℕ} {ls : List (Link g.Value)} {es : List Entry} {table : List W} {groups : Groups} (ex : Explains g n ls es table groups) {u v : ℕ} (pair : Standing groups n u v) (best x : g.Value) (here : x ≡ at g table n u v) (r : Bool) where
-  pub heavy_decided : r ≡ g.le best x → Decides r (Meets (kind_of g) n ls es best u v Heavy)
-  heavy_decided t = Decides-at r _ (t ∙ ap (g.le best) (here ∙ joint_at ex pair)) (itself _)
+-- the two tests that look at no third group
+module _ {W : Type 0} {g : Ghosts W} {n : ℕ} {ls : List (Link g.Value)} {es : List Entry} {table : List W} {groups : Groups} (laws : Lawful (kind_of g)) (ex : Explains g n ls es table groups) {u v : ℕ} (pair : Standing groups n u v) (best x : g.Value) (here : x ≡ at g table n u v) where
+  pub heavy_decided : (r : Bool) → r ≡ g.le best x → Decides r (Meets (kind_of g) n ls es best u v Heavy)
+  heavy_decided r t = Decides-at r _ (t ∙ ap (g.le best) (here ∙ joint_at ex pair)) (itself _)
 
-  pub unbalanced_decided : (a b : g.Value) → a ≡ at g table n u u → b ≡ at g table n v v → r ≡ (g.le a (g.plus x x) || g.le b (g.plus x x)) → Decides r (Meets (kind_of g) n ls es best u v Unbalanced)
-  unbalanced_decided a b p q t =
+  unbalanced_decided : (a b : g.Value) (r : Bool) → a ≡ at g table n u u → b ≡ at g table n v v → (g.size x + g.size x ≤ limit → r ≡ (g.le a (g.plus x x) || g.le b (g.plus x x))) → Decides r (Meets (kind_of g) n ls es best u v Unbalanced)
+  unbalanced_decided a b r p q t =
       let joined = here ∙ joint_at ex pair in
       let low = ap₂ (λ d y. g.le d (g.plus y y)) (p ∙ degree_low ex pair) joined in
       let high = ap₂ (λ d y. g.le d (g.plus y y)) (q ∙ degree_high ex pair) joined in
-      Decides-at r _ (t ∙ ap₂ ◌||◌ low high) (Decides-or _ _ (itself _) (itself _))
+      Decides-at r _ (t (twice_fits laws ex pair x here) ∙ ap₂ ◌||◌ low high) (Decides-or _ _ (itself _) (itself _))
+
+  pub two_decided : (h r : Bool) (a b : g.Value) → h ≡ g.le best x → a ≡ at g table n u u → b ≡ at g table n v v → (g.size x + g.size x ≤ limit → r ≡ (g.le a (g.plus x x) || g.le b (g.plus x x)))
+      → Decides h (Meets (kind_of g) n ls es best u v Heavy) × Decides r (Meets (kind_of g) n ls es best u v Unbalanced)
+  two_decided h r a b heavy p q t = (heavy_decided h heavy, unbalanced_decided a b r p q t)

@@ -35,14 +35,6 @@ pub fn is_unbalanced<W: Weight>(joint: W, a: W, b: W) -> bool
     within_twice(a, joint) || within_twice(b, joint)
 }
 
-// Whether a unit is a group that stands, and neither of a pair.
-fn is_third(groups: &Groups, u: usize, v: usize, w: usize) -> bool
-    requires { w < groups.now.units }
-    ensures { result ≡ (slice_index_or groups.now.standing w false && not (w == u || w == v)) }
-{
-    groups.stands(w) && w != u && w != v
-}
-
 // Whether a group makes a triangle of a pair: it is a third one, and each degree is at most twice
 // what joins it to the other two.
 fn is_apex<W: Weight>(
@@ -61,7 +53,7 @@ fn is_apex<W: Weight>(
     ensures { (ls : List (Link W.Weight.Value)) (es : List Entry) → Explains W.Weight n ls es table.now groups.now → Standing groups.now n u v → Decides result (Apex (kind_of W.Weight) n ls es u v apex) }
 {
     let joint = entry(table, n, u, v);
-    is_third(groups, u, v, apex)
+    groups.is_third(u, v, apex)
         && within_twice(entry(table, n, u, u), add(joint, entry(table, n, u, apex)))
         && within_twice(entry(table, n, v, v), add(joint, entry(table, n, v, apex)))
 }
@@ -95,7 +87,7 @@ pub fn is_neighbourhood<W: Weight>(
     let mut sum = entry(table, n, u, v);
     // The groups' numbers are what is gone over, here and below: they are rows and columns of the table.
     for w in 0..n {
-        if is_third(groups, u, v, w) {
+        if groups.is_third(u, v, w) {
             sum = add(sum, lesser(entry(table, n, u, w), entry(table, n, v, w)));
         }
     }

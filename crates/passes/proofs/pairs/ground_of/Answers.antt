@@ -1,51 +1,46 @@
 use Rattle.cuts.specs.Kinds.{kind_of}
-use Rattle.passes.proofs.Fits.{twice_fits}
-use Rattle.passes.proofs.Grounds.{heavy_judged, unbalanced_judged, triangle_judged, neighbourhood_judged, none_judged, heavy_decided, unbalanced_decided}
+use Rattle.passes.proofs.Grounds.{heavy_judged, unbalanced_judged, triangle_judged, neighbourhood_judged, none_judged, heavy_decided, two_decided}
 use Rattle.passes.proofs.pairs.ground_of.Goals as goal
 
 pub returns-then-at_most : goal.returns-then-at_most
 returns-then-at_most g c = λ ls es ex pair.
     let best = g.W.Weight.value c.args.best in
-    let heavy = heavy_decided ex pair best _ c.entry-joint.ensures.value _ c.at_most.ensures in
+    let heavy = heavy_decided g.met.W.Weight.laws ex pair best _ c.entry-joint.ensures.value _ c.at_most.ensures in
     heavy_judged (kind_of g.W.Weight) c.args.n ls es best c.args.u c.args.v (_, heavy, c.if-at_most.true)
 
 pub returns-then-is_unbalanced : goal.returns-then-is_unbalanced
 returns-then-is_unbalanced g c = λ ls es ex pair.
     let best = g.W.Weight.value c.args.best in
-    let heavy = heavy_decided ex pair best _ c.entry-joint.ensures.value _ c.at_most.ensures in
-    let unbalanced = unbalanced_decided ex pair best _ c.entry-joint.ensures.value _ _ _ c.entry.ensures.value c.entry-2.ensures.value (c.is_unbalanced.ensures (twice_fits g.met.W.Weight.laws ex pair _ c.entry-joint.ensures.value)) in
+    let two = two_decided g.met.W.Weight.laws ex pair best _ c.entry-joint.ensures.value _ _ _ _ c.at_most.ensures c.entry.ensures.value c.entry-2.ensures.value c.is_unbalanced.ensures in
     unbalanced_judged (kind_of g.W.Weight) c.args.n ls es best c.args.u c.args.v
-    (_, heavy, c.if-at_most.false)
-    (_, unbalanced, c.if-is_unbalanced.true)
+    (_, two.0, c.if-at_most.false)
+    (_, two.1, c.if-is_unbalanced.true)
 
 pub returns-then-is_triangle : goal.returns-then-is_triangle
 returns-then-is_triangle g c = λ ls es ex pair.
     let best = g.W.Weight.value c.args.best in
-    let heavy = heavy_decided ex pair best _ c.entry-joint.ensures.value _ c.at_most.ensures in
-    let unbalanced = unbalanced_decided ex pair best _ c.entry-joint.ensures.value _ _ _ c.entry.ensures.value c.entry-2.ensures.value (c.is_unbalanced.ensures (twice_fits g.met.W.Weight.laws ex pair _ c.entry-joint.ensures.value)) in
+    let two = two_decided g.met.W.Weight.laws ex pair best _ c.entry-joint.ensures.value _ _ _ _ c.at_most.ensures c.entry.ensures.value c.entry-2.ensures.value c.is_unbalanced.ensures in
     triangle_judged (kind_of g.W.Weight) c.args.n ls es best c.args.u c.args.v
-    (_, heavy, c.if-at_most.false)
-    (_, unbalanced, c.if-is_unbalanced.false)
+    (_, two.0, c.if-at_most.false)
+    (_, two.1, c.if-is_unbalanced.false)
     (_, c.is_triangle.ensures ls es ex pair best, c.if-is_triangle.true)
 
 pub returns-then-is_neighbourhood : goal.returns-then-is_neighbourhood
 returns-then-is_neighbourhood g c = λ ls es ex pair.
     let best = g.W.Weight.value c.args.best in
-    let heavy = heavy_decided ex pair best _ c.entry-joint.ensures.value _ c.at_most.ensures in
-    let unbalanced = unbalanced_decided ex pair best _ c.entry-joint.ensures.value _ _ _ c.entry.ensures.value c.entry-2.ensures.value (c.is_unbalanced.ensures (twice_fits g.met.W.Weight.laws ex pair _ c.entry-joint.ensures.value)) in
+    let two = two_decided g.met.W.Weight.laws ex pair best _ c.entry-joint.ensures.value _ _ _ _ c.at_most.ensures c.entry.ensures.value c.entry-2.ensures.value c.is_unbalanced.ensures in
     neighbourhood_judged (kind_of g.W.Weight) c.args.n ls es best c.args.u c.args.v
-    (_, heavy, c.if-at_most.false)
-    (_, unbalanced, c.if-is_unbalanced.false)
+    (_, two.0, c.if-at_most.false)
+    (_, two.1, c.if-is_unbalanced.false)
     (_, c.is_triangle.ensures ls es ex pair best, c.if-is_triangle.false)
     (_, c.is_neighbourhood.ensures ls es ex pair, c.if-is_neighbourhood.true)
 
 pub returns : goal.returns
 returns g c = λ ls es ex pair.
     let best = g.W.Weight.value c.args.best in
-    let heavy = heavy_decided ex pair best _ c.entry-joint.ensures.value _ c.at_most.ensures in
-    let unbalanced = unbalanced_decided ex pair best _ c.entry-joint.ensures.value _ _ _ c.entry.ensures.value c.entry-2.ensures.value (c.is_unbalanced.ensures (twice_fits g.met.W.Weight.laws ex pair _ c.entry-joint.ensures.value)) in
+    let two = two_decided g.met.W.Weight.laws ex pair best _ c.entry-joint.ensures.value _ _ _ _ c.at_most.ensures c.entry.ensures.value c.entry-2.ensures.value c.is_unbalanced.ensures in
     none_judged (kind_of g.W.Weight) c.args.n ls es best c.args.u c.args.v
-    (_, heavy, c.if-at_most.false)
-    (_, unbalanced, c.if-is_unbalanced.false)
+    (_, two.0, c.if-at_most.false)
+    (_, two.1, c.if-is_unbalanced.false)
     (_, c.is_triangle.ensures ls es ex pair best, c.if-is_triangle.false)
     (_, c.is_neighbourhood.ensures ls es ex pair, c.if-is_neighbourhood.false)
