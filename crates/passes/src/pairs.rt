@@ -1,5 +1,5 @@
 // The tests of a pair of groups, and the pass over all pairs.
-ghost use Rattle.std.specs.Prelude.{◌≡◌, ◌+◌, ◌*◌, ◌<◌, ◌≤◌, false, not, ◌&&◌, ◌||◌, List, length, Decides, ◌==◌, IfSome, slice_index_or};
+ghost use Rattle.std.specs.Prelude.{◌≡◌, ◌+◌, ◌*◌, ◌<◌, ◌≤◌, ◌||◌, List, length, Decides, IfSome};
 ghost use Rattle.weights.specs.Laws.{limit};
 ghost use Rattle.cuts.specs.declared.entry.Entry.{Entry};
 ghost use Rattle.cuts.specs.declared.ground.Ground.TheVariants.{Triangle, Neighbourhood};
