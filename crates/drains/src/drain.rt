@@ -1,6 +1,6 @@
 // Draining a queue: every entry is taken, heaviest first.
 ghost use Rattle.std.specs.Prelude.{◌≡◌, ℕ, ◌≤◌, length, take, drop};
-ghost use Rattle.queues.specs.Keys.{Empty};
+ghost use Rattle.queues.specs.Keys.{Empty, no_heavier};
 ghost use Rattle.drains.specs.Outcome.{Drained};
 
 use queues::queue::PriorityQueue;
@@ -17,9 +17,10 @@ pub fn drain<W: Weight, Q: PriorityQueue<Weight = W>>(
     ensures sound { Q.PriorityQueue.sound queue.new }
     ensures emptied { Empty (Q.PriorityQueue.key queue.new) }
     ensures few { result ≤ 64 }
-    ensures drained { Drained (λ a b. W.Weight.le (W.Weight.value a) (W.Weight.value b)) (Q.PriorityQueue.key queue.old) (take result out.new) }
+    ensures drained { Drained (no_heavier W.Weight) (Q.PriorityQueue.key queue.old) (take result out.new) }
     ensures rest { drop result out.new ≡ drop result out.old }
 {
+    // counted by hand: the queue and not `out` says when it ends
     let mut count = 0;
     while let Some(entry) = queue.take() {
         out[count] = entry;

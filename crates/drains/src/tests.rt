@@ -25,12 +25,9 @@ fn plain(conductors: u32) -> Result<Plain, Refusal> {
     Plain::from_parts(&[conductors])
 }
 
-// The number of a refusal, or 0.
-fn refused<T: Drop>(reply: Result<T, Refusal>) -> u8 {
-    match reply {
-        Ok(_) => 0,
-        Err(why) => why.number(),
-    }
+// The number of a refusal.
+fn refused<T: Drop>(reply: Result<T, Refusal>) -> Option<u8> {
+    reply.err().map(|why| why.number())
 }
 
 fn fill<Q: PriorityQueue<Weight = Plain>>(queue: &mut Q) -> Result<(), Fail>
@@ -53,11 +50,11 @@ fn refuse<Q: PriorityQueue<Weight = Plain>>(rt: &impl Abort, queue: &mut Q) -> R
 {
     let nine = plain(9)?;
     let most = plain(2_000_000)?;
-    assert_eq!(rt; refused(queue.put(64, nine)), 9);
-    assert_eq!(rt; refused(queue.put(3, nine)), 18);
-    assert_eq!(rt; refused(queue.raise(1, nine)), 19);
-    assert_eq!(rt; refused(queue.raise(64, nine)), 19);
-    assert_eq!(rt; refused(queue.raise(3, most)), 12);
+    assert_eq!(rt; refused(queue.put(64, nine)), Some(9));
+    assert_eq!(rt; refused(queue.put(3, nine)), Some(18));
+    assert_eq!(rt; refused(queue.raise(1, nine)), Some(19));
+    assert_eq!(rt; refused(queue.raise(64, nine)), Some(19));
+    assert_eq!(rt; refused(queue.raise(3, most)), Some(12));
     Ok(())
 }
 
@@ -72,10 +69,10 @@ fn compare<Q: PriorityQueue<Weight = Plain>>(
 {
     let mut out = [(0, Plain::nothing()); 64];
     let count = drain(queue, &mut out);
-    assert!(rt; count == expected.len());
-    for i in 0..count {
-        let (group, key) = out[i];
-        assert_eq!(rt; (group, key.amount()), expected[i], "{}", i);
+    assert_eq!(rt; count, expected.len());
+    for (i, (entry, wanted)) in out[..count].iter().zip(expected).enumerate() {
+        let (group, key) = *entry;
+        assert_eq!(rt; (group, key.amount()), *wanted, "{}", i);
     }
 }
 

@@ -1,6 +1,6 @@
 // A queue for tests, which is told which of several equally heavy entries to take.
 ghost use Rattle.std.specs.Prelude.{◌≡◌, length};
-ghost use Rattle.queues.specs.Keys.{Empty};
+ghost use Rattle.queues.specs.Keys.{Empty, no_heavier};
 ghost use Rattle.queues.specs.Slots.{Within, Reached};
 ghost use Rattle.drains.specs.Ties.{keyed, keyed_within, Picked, prefers};
 
@@ -51,17 +51,15 @@ impl<W: Weight> TiedQueue<W> {
     fn pick(&self) -> Option<(usize, W)>
         requires { length self.now.keys ≡ 64 }
         ensures within { Reached result 64 }
-        ensures picked { Picked (λ a b. W.Weight.le (W.Weight.value a) (W.Weight.value b)) self.now.tie (keyed self.now.keys) result }
+        ensures picked { Picked (no_heavier W.Weight) self.now.tie (keyed self.now.keys) result }
     {
         let mut best: Option<(usize, W)> = None;
-        for group in 0..GROUPS {
-            let Some(key) = self.key_of(group) else {
-                continue;
-            };
-            if !preferred(self.tie, key, best) {
-                continue;
+        for (group, key) in self.keys.iter().enumerate() {
+            if let Some(key) = *key {
+                if preferred(self.tie, key, best) {
+                    best = Some((group, key));
+                }
             }
-            best = Some((group, key));
         }
         best
     }
@@ -122,7 +120,7 @@ fn no_keys<W: Weight>() -> [Option<W>; 64]
 
 // Whether the key of a higher group is taken before the best of the lower ones.
 fn preferred<W: Weight>(tie: Tie, key: W, best: Option<(usize, W)>) -> bool
-    ensures { result ≡ prefers (λ a b. W.Weight.le (W.Weight.value a) (W.Weight.value b)) tie best key }
+    ensures { result ≡ prefers (no_heavier W.Weight) tie best key }
 {
     match (tie, best) {
         (_, None) => true,

@@ -2,6 +2,7 @@
 ghost use Rattle.std.specs.Prelude.{◌≡◌, ◌<◌, length, Some};
 ghost use Rattle.std.specs.List.{slice_get};
 ghost use Rattle.heaps.specs.Entries.{before as ahead};
+ghost use Rattle.queues.specs.Keys.{no_heavier};
 
 use weights::weight::Weight;
 
@@ -35,7 +36,7 @@ pub(crate) fn read<W: Weight>(entries: &[HeapEntry<W>], at: usize) -> HeapEntry<
 // Whether an entry has to come before another: the heavier one first, and of equally heavy ones that
 // of the lower group.
 pub(crate) fn before<W: Weight>(a: HeapEntry<W>, b: HeapEntry<W>) -> bool
-    ensures { result ≡ ahead (λ a b. W.Weight.le (W.Weight.value a) (W.Weight.value b)) a b }
+    ensures { result ≡ ahead (no_heavier W.Weight) a b }
 {
     if !a.key.at_most(b.key) {
         return true;

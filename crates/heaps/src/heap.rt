@@ -1,13 +1,13 @@
 // The heap: a queue that keeps its entries in the order of a binary heap.
 ghost use Rattle.std.specs.Prelude.{◌≡◌, ℕ, ◌<◌, ◌≤◌, true, length, if◌then◌else◌, Some, None, nat_eq};
-ghost use Rattle.queues.specs.Keys.{Empty, Unchanged, Becomes};
+ghost use Rattle.queues.specs.Keys.{Empty, Unchanged, Becomes, no_heavier};
 ghost use Rattle.queues.specs.Memory.{Enough, Unsettled};
 ghost use Rattle.heaps.specs.Tree.{Rising, Sinking, Swapped, Eldest};
 ghost use Rattle.heaps.specs.Entries.{before as ahead};
 ghost use Rattle.heaps.specs.Heaped.{placed, standing, heap_key, key_within, Kept, Heaped, Finds, Top};
 
 use crate::entry::{HeapEntry, before, read};
-use queues::queue::{GROUPS, PriorityQueue};
+use queues::queue::{GROUPS, PriorityQueue, enough};
 use refusals::Refusal;
 use weights::weight::Weight;
 
@@ -26,16 +26,13 @@ impl<'a, W: Weight> HeapQueue<'a, W> {
     pub fn check(entries: &[HeapEntry<W>]) -> Result<(), Refusal>
         ensures { Enough result (length entries.now) }
     {
-        if entries.len() < GROUPS {
-            return Err(Refusal::ShortMemory);
-        }
-        Ok(())
+        enough(entries)
     }
 
     // An empty queue over the lent entries, whatever they hold.
     pub fn over(entries: &'a mut [HeapEntry<W>]) -> HeapQueue<'a, W>
         requires { 64 ≤ length entries.old }
-        ensures sound { Heaped (λ a b. W.Weight.le (W.Weight.value a) (W.Weight.value b)) result }
+        ensures sound { Heaped (no_heavier W.Weight) result }
         ensures empty { Empty (heap_key result) }
         ensures memory { result.entries.now ≡ entries.old }
     {
@@ -76,7 +73,7 @@ impl<'a, W: Weight> HeapQueue<'a, W> {
     // Whether the entry at one place has to come before that at another.
     fn is_before(&self, a: usize, b: usize) -> bool
         requires { (a < length self.now.entries.now) × (b < length self.now.entries.now) }
-        ensures { (x y : HeapEntry W) → standing self.now a ≡ Some x → standing self.now b ≡ Some y → result ≡ ahead (λ a b. W.Weight.le (W.Weight.value a) (W.Weight.value b)) x y }
+        ensures { (x y : HeapEntry W) → standing self.now a ≡ Some x → standing self.now b ≡ Some y → result ≡ ahead (no_heavier W.Weight) x y }
     {
         before(self.entry(a), self.entry(b))
     }
@@ -115,8 +112,8 @@ impl<'a, W: Weight> HeapQueue<'a, W> {
 
     // The entry that comes first: a heaviest one, and of these that of the lowest group.
     fn top(&self) -> Option<HeapEntry<W>>
-        requires { Heaped (λ a b. W.Weight.le (W.Weight.value a) (W.Weight.value b)) self.now }
-        ensures { Top (λ a b. W.Weight.le (W.Weight.value a) (W.Weight.value b)) self.now result }
+        requires { Heaped (no_heavier W.Weight) self.now }
+        ensures { Top (no_heavier W.Weight) self.now result }
     {
         if self.count == 0 {
             return None;
@@ -126,10 +123,10 @@ impl<'a, W: Weight> HeapQueue<'a, W> {
 
     // Adds the entry of a group that does not wait.
     fn push(&mut self, entry: HeapEntry<W>)
-        requires sound { Heaped (λ a b. W.Weight.le (W.Weight.value a) (W.Weight.value b)) self.old }
+        requires sound { Heaped (no_heavier W.Weight) self.old }
         requires group { entry.group < 64 }
         requires free { heap_key self.old entry.group ≡ None }
-        ensures sound { Heaped (λ a b. W.Weight.le (W.Weight.value a) (W.Weight.value b)) self.new }
+        ensures sound { Heaped (no_heavier W.Weight) self.new }
         ensures keys { Becomes (heap_key self.old) (heap_key self.new) entry.group (Some entry.key) }
         ensures memory { Unsettled 64 self.old.entries.now self.new.entries.now }
     {
@@ -141,10 +138,10 @@ impl<'a, W: Weight> HeapQueue<'a, W> {
 
     // Gives the entry at a place a key that is no lighter.
     fn replace(&mut self, at: usize, entry: HeapEntry<W>)
-        requires sound { Heaped (λ a b. W.Weight.le (W.Weight.value a) (W.Weight.value b)) self.old }
+        requires sound { Heaped (no_heavier W.Weight) self.old }
         requires within { at < self.old.count }
         requires heavier { (e : HeapEntry W) → standing self.old at ≡ Some e → (entry.group ≡ e.group) × (W.Weight.le (W.Weight.value e.key) (W.Weight.value entry.key) ≡ true) }
-        ensures sound { Heaped (λ a b. W.Weight.le (W.Weight.value a) (W.Weight.value b)) self.new }
+        ensures sound { Heaped (no_heavier W.Weight) self.new }
         ensures keys { Becomes (heap_key self.old) (heap_key self.new) entry.group (Some entry.key) }
         ensures memory { Unsettled 64 self.old.entries.now self.new.entries.now }
     {
@@ -154,9 +151,9 @@ impl<'a, W: Weight> HeapQueue<'a, W> {
 
     // Removes the entry that comes first.
     fn pop(&mut self)
-        requires sound { Heaped (λ a b. W.Weight.le (W.Weight.value a) (W.Weight.value b)) self.old }
+        requires sound { Heaped (no_heavier W.Weight) self.old }
         requires some { 0 < self.old.count }
-        ensures sound { Heaped (λ a b. W.Weight.le (W.Weight.value a) (W.Weight.value b)) self.new }
+        ensures sound { Heaped (no_heavier W.Weight) self.new }
         ensures keys { (e : HeapEntry W) → standing self.old 0 ≡ Some e → Becomes (heap_key self.old) (heap_key self.new) e.group None }
         ensures memory { Unsettled 64 self.old.entries.now self.new.entries.now }
     {
@@ -170,8 +167,8 @@ impl<'a, W: Weight> HeapQueue<'a, W> {
     fn sift_up(&mut self, start: usize)
         requires kept { Kept self.old }
         requires within { start < self.old.count }
-        requires rising { Rising (ahead (λ a b. W.Weight.le (W.Weight.value a) (W.Weight.value b))) (standing self.old) self.old.count start }
-        ensures sound { Heaped (λ a b. W.Weight.le (W.Weight.value a) (W.Weight.value b)) self.new }
+        requires rising { Rising (ahead (no_heavier W.Weight)) (standing self.old) self.old.count start }
+        ensures sound { Heaped (no_heavier W.Weight) self.new }
         ensures keys { Unchanged (heap_key self.old) (heap_key self.new) }
         ensures memory { Unsettled 64 self.old.entries.now self.new.entries.now }
     {
@@ -190,8 +187,8 @@ impl<'a, W: Weight> HeapQueue<'a, W> {
     fn sift_down(&mut self, start: usize)
         requires kept { Kept self.old }
         requires within { start ≤ 64 }
-        requires sinking { Sinking (ahead (λ a b. W.Weight.le (W.Weight.value a) (W.Weight.value b))) (standing self.old) self.old.count start }
-        ensures sound { Heaped (λ a b. W.Weight.le (W.Weight.value a) (W.Weight.value b)) self.new }
+        requires sinking { Sinking (ahead (no_heavier W.Weight)) (standing self.old) self.old.count start }
+        ensures sound { Heaped (no_heavier W.Weight) self.new }
         ensures keys { Unchanged (heap_key self.old) (heap_key self.new) }
         ensures memory { Unsettled 64 self.old.entries.now self.new.entries.now }
     {
@@ -209,7 +206,7 @@ impl<'a, W: Weight> HeapQueue<'a, W> {
     fn first_child(&self, i: usize) -> Option<usize>
         requires kept { Kept self.now }
         requires within { i ≤ 64 }
-        ensures { Eldest (ahead (λ a b. W.Weight.le (W.Weight.value a) (W.Weight.value b))) (standing self.now) self.now.count i result }
+        ensures { Eldest (ahead (no_heavier W.Weight)) (standing self.now) self.now.count i result }
     {
         let left = 2 * i + 1;
         if left >= self.count {
@@ -229,7 +226,7 @@ impl<'a, W: Weight> HeapQueue<'a, W> {
 impl<'a, W: Weight> PriorityQueue for HeapQueue<'a, W> {
     type Weight = W;
 
-    ghost sound = { Heaped (λ a b. W.Weight.le (W.Weight.value a) (W.Weight.value b)) };
+    ghost sound = { Heaped (no_heavier W.Weight) };
 
     ghost key = { heap_key };
 

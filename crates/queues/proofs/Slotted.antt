@@ -1,8 +1,9 @@
 -- What slots hold after a write, and below a reach.
-use Rattle.std.proofs.Common.{◌≡◌, ℕ, zero, suc, ◌+◌, ◌<◌, ◌≤◌, true, false, cond, eqb, ltb, List, [], ◌∷◌, length, get_or, set, is_some, Some, None, Option, sym, refl, ap, ◌∙◌, ⊎_elim, arith}
+use Rattle.std.proofs.Common.{◌≡◌, ℕ, zero, suc, ◌+◌, ◌<◌, ◌≤◌, true, false, cond, eqb, ltb, List, [], ◌∷◌, length, get_or, take, set, is_some, Some, None, Option, sym, refl, ap, ◌∙◌, ⊎_elim, arith}
 use lib.Dec.{eqb-zero-suc, eqb-suc-zero, eqb-suc-suc}
 use Rattle.std.proofs.lemmas.Bool.{cases_eq, cases_lt, cond-true, cond-false, lt-ltb, le-ltb}
 use Rattle.std.proofs.lemmas.Bool.Decides.{nat_tests}
+use Rattle.std.proofs.lemmas.List.{get_or-take, length-take-le}
 use Rattle.std.specs.Map.{update}
 use Rattle.std.proofs.lemmas.Map.{update_here, update_apart}
 use Rattle.queues.specs.declared.list.Slot.{Slot}
@@ -40,6 +41,13 @@ module _ {W : Type 0} (ss : List (Slot W)) where
       let same : ltb q (i + 1) ≡ ltb q i = grind (arith, nat_tests) in
       ap (λ b. cond b (keyed ss q) None) same ∙ sym (update_apart (waiting ss i) i (keyed ss i) q ne))
       (cases_eq q i)
+
+  -- one slot more counts, which a look through the first slots has come to
+  pub waiting_next : (reach i : ℕ) (s : Slot W) (o : Option W) → reach ≤ length ss → i < length (take reach ss) → s ≡ get_or (take reach ss) i s → held s ≡ o → Becomes (waiting ss i) (waiting ss (i + 1)) i o
+  waiting_next reach i s o room lt is e =
+      let size = length-take-le reach ss room in
+      let at : s ≡ get_or ss i s = is ∙ get_or-take reach ss i s (omega arith) in
+      rw (keyed_at ss i s (omega arith) at ∙ e) at (waiting_more i)
 
   -- a slot that counts is written
   pub waiting_set : (reach g : ℕ) (s : Slot W) → g < reach → g < length ss → Becomes (waiting ss reach) (waiting (set ss g s) reach) g (held s)

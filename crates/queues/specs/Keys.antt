@@ -4,6 +4,11 @@ use Rattle.std.specs.Map.{update}
 use Rattle.refusals.specs.declared.Refusal.{Refusal}
 use Rattle.refusals.specs.declared.Refusal.TheVariants.{NoSuchUnit, AlreadyWaiting, NotWaiting, OverLimit}
 use Rattle.weights.specs.Laws.{limit}
+use Rattle.weights.specs.declared.weight.Weight.{Ghosts}
+
+-- whether a weight is no heavier than another, by what the two mean
+abbrev pub no_heavier : {W : Type 0} → Ghosts W → W → W → Bool
+no_heavier g = λ a b. g.le (g.value a) (g.value b)
 
 -- no group waits
 abbrev pub Empty : {W : Type 0} → (ℕ → Option W) → Type 0

@@ -7,7 +7,7 @@ use Rattle.queues.specs.Keys.{Empty, Leads}
 
 -- the key that a slot holds
 abbrev pub held : {W : Type 0} → Slot W → Option W
-held s = cond s.waits (Some s.key) None
+held s = s.key
 
 -- the key that the slot at a place holds
 abbrev pub keyed : {W : Type 0} → List (Slot W) → ℕ → Option W

@@ -1,18 +1,17 @@
 // The list: a queue that looks through all its entries.
 ghost use Rattle.std.specs.Prelude.{◌≡◌, ℕ, ◌<◌, ◌≤◌, length, Some, None};
-ghost use Rattle.queues.specs.Keys.{Empty, Unchanged, Becomes};
+ghost use Rattle.queues.specs.Keys.{Empty, Unchanged, Becomes, no_heavier};
 ghost use Rattle.queues.specs.Memory.{Enough, Unsettled};
 ghost use Rattle.queues.specs.Slots.{held, keyed, waiting, waiting_within, Fits, Spared, Within, Reached, Best, beats};
 
-use crate::queue::{GROUPS, PriorityQueue};
+use crate::queue::{GROUPS, PriorityQueue, enough};
 use refusals::Refusal;
 use weights::weight::Weight;
 
-// The place of one group: its key counts only while the group waits.
+// The place of one group: its key, while the group waits.
 #[derive(Clone, Copy)]
 pub struct Slot<W> {
-    waits: bool,
-    key: W,
+    key: Option<W>,
 }
 
 impl<W: Weight> Slot<W> {
@@ -20,10 +19,7 @@ impl<W: Weight> Slot<W> {
     pub fn empty() -> Slot<W>
         ensures { held result ≡ None }
     {
-        Slot {
-            waits: false,
-            key: W::nothing(),
-        }
+        Slot { key: None }
     }
 }
 
@@ -40,10 +36,7 @@ impl<'a, W: Weight> ListQueue<'a, W> {
     pub fn check(slots: &[Slot<W>]) -> Result<(), Refusal>
         ensures { Enough result (length slots.now) }
     {
-        if slots.len() < GROUPS {
-            return Err(Refusal::ShortMemory);
-        }
-        Ok(())
+        enough(slots)
     }
 
     // An empty queue over the lent slots, whatever they hold.
@@ -69,7 +62,7 @@ impl<'a, W: Weight> ListQueue<'a, W> {
     fn heaviest(&self) -> Option<(usize, W)>
         requires { Fits (length self.now.slots.now) self.now.reach }
         ensures within { Reached result self.now.reach }
-        ensures best { Best (λ a b. W.Weight.le (W.Weight.value a) (W.Weight.value b)) (waiting self.now.slots.now self.now.reach) result }
+        ensures best { Best (no_heavier W.Weight) (waiting self.now.slots.now self.now.reach) result }
     {
         heaviest_of(self.slots, self.reach)
     }
@@ -84,7 +77,7 @@ impl<'a, W: Weight> ListQueue<'a, W> {
         ensures memory { Unsettled 64 self.old.slots.now self.new.slots.now }
     {
         self.reach_past(group);
-        self.slots[group] = Slot { waits: true, key };
+        self.slots[group] = Slot { key: Some(key) };
     }
 
     // Removes the entry of a group.
@@ -96,7 +89,7 @@ impl<'a, W: Weight> ListQueue<'a, W> {
         ensures rest { Spared self.old.slots.now self.new.slots.now }
         ensures memory { Unsettled 64 self.old.slots.now self.new.slots.now }
     {
-        self.slots[group].waits = false;
+        self.slots[group].key = None;
     }
 
     // Makes the slot of a group count; the entries stay as they are.
@@ -170,11 +163,7 @@ fn key_at<W: Weight>(slots: &[Slot<W>], reach: usize, group: usize) -> Option<W>
     if group >= reach {
         return None;
     }
-    let slot = slots[group];
-    if !slot.waits {
-        return None;
-    }
-    Some(slot.key)
+    slots[group].key
 }
 
 // Empties the slots from one place up to, and without, another: so many more count, and none of them waits.
@@ -186,32 +175,29 @@ fn empty_between<W: Weight>(slots: &mut [Slot<W>], from: usize, to: usize)
     ensures memory { Unsettled to slots.old slots.new }
 {
     for i in from..to {
-        slots[i].waits = false;
+        slots[i].key = None;
     }
 }
 
 // The heaviest entry; of equally heavy ones that of the lowest group.
 fn heaviest_of<W: Weight>(slots: &[Slot<W>], reach: usize) -> Option<(usize, W)>
     requires { reach ≤ length slots.now }
-    ensures { Best (λ a b. W.Weight.le (W.Weight.value a) (W.Weight.value b)) (waiting slots.now reach) result }
+    ensures { Best (no_heavier W.Weight) (waiting slots.now reach) result }
 {
     let mut best: Option<(usize, W)> = None;
-    for i in 0..reach {
-        let slot = slots[i];
-        if !slot.waits {
-            continue;
+    for (group, slot) in slots[..reach].iter().enumerate() {
+        if let Some(key) = slot.key {
+            if heavier(key, best) {
+                best = Some((group, key));
+            }
         }
-        if !heavier(slot.key, best) {
-            continue;
-        }
-        best = Some((i, slot.key));
     }
     best
 }
 
 // Whether a key is heavier than the best one so far.
 fn heavier<W: Weight>(key: W, best: Option<(usize, W)>) -> bool
-    ensures { result ≡ beats (λ a b. W.Weight.le (W.Weight.value a) (W.Weight.value b)) best key }
+    ensures { result ≡ beats (no_heavier W.Weight) best key }
 {
     match best {
         None => true,

@@ -1,6 +1,7 @@
 // What a priority queue is.
-ghost use Rattle.std.specs.Prelude.{◌≡◌, ◌≤◌, ℕ, None, Option};
-ghost use Rattle.queues.specs.Keys.{Empty, Put, Raised, Taken};
+ghost use Rattle.std.specs.Prelude.{◌≡◌, ◌≤◌, ℕ, length, None, Option};
+ghost use Rattle.queues.specs.Keys.{Empty, Put, Raised, Taken, no_heavier};
+ghost use Rattle.queues.specs.Memory.{Enough};
 
 use refusals::Refusal;
 use weights::weight::Weight;
@@ -9,7 +10,8 @@ use weights::weight::Weight;
 pub const GROUPS: usize = 64;
 
 // A set of entries, each a group number from 0 to 63 and a key, which is a weight; no group has two
-// entries. Which of several equally heavy entries `take` removes is left open.
+// entries. Which of several equally heavy entries `take` removes is left open. Each queue writes `put` and
+// `raise` itself: from shared ones the heap would look up a group's place twice.
 pub trait PriorityQueue {
     type Weight: Weight;
 
@@ -47,9 +49,19 @@ pub trait PriorityQueue {
     fn take(&mut self) -> Option<(usize, Self::Weight)>
         requires { sound self.old }
         ensures sound { sound self.new }
-        ensures taken { Taken (λ a b. Self.Weight.Weight.le (Self.Weight.Weight.value a) (Self.Weight.Weight.value b)) (key self.old) (key self.new) result }
+        ensures taken { Taken (no_heavier Self.Weight.Weight) (key self.old) (key self.new) result }
         ensures memory { spares self.old self.new };
 
     // only a group from 0 to 63 has a key
     ghost within: { (q : Self) → sound q → (g : ℕ) → 64 ≤ g → key q g ≡ None };
+}
+
+// Whether lent memory has a place for every group: 17 under 64 places.
+pub fn enough<T>(memory: &[T]) -> Result<(), Refusal>
+    ensures { Enough result (length memory.now) }
+{
+    if memory.len() < GROUPS {
+        return Err(Refusal::ShortMemory);
+    }
+    Ok(())
 }

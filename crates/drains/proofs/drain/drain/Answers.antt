@@ -1,4 +1,5 @@
 use Rattle.std.proofs.Common.{◌≡◌, ◌+◌, ◌<◌, length, take, refl, ◌∙◌, arith, length-set, rules}
+use Rattle.queues.specs.Keys.{no_heavier}
 use Rattle.drains.proofs.Counts.{waiting_to, waiting_most, waiting_less}
 use Rattle.drains.proofs.Draining.{drain_none, drain_set, drain_all, drop_more_set}
 use Rattle.drains.proofs.drain.drain.Goals as goal
@@ -16,7 +17,7 @@ loop-entry-init g c =
     let w = g.W.Weight in
     let key = g.Q.PriorityQueue.key c.args.queue.now in
     let most = waiting_most key 64 in
-    (c.requires.sound, refl, omega arith, drain_none (λ a b. w.le (w.value a) (w.value b)) key, refl)
+    (c.requires.sound, refl, omega arith, drain_none (no_heavier w) key, refl)
 
 -- there is a place for it
 place : (g : _) (c : goal.In-Some g) → c.loop-entry.count < length c.loop-entry.out
@@ -44,7 +45,7 @@ loop-entry-preserved g c =
       c.take.ensures.sound,
       length-set out count _ ∙ inv.1,
       omega arith,
-      drain_set (λ a b. w.le (w.value a) (w.value b)) (q.key c.args.queue.now) (q.key c.loop-entry.queue) (q.key c.take.new.self) out count _ room inv.3 taken.0 taken.1,
+      drain_set (no_heavier w) (q.key c.args.queue.now) (q.key c.loop-entry.queue) (q.key c.take.new.self) out count _ room inv.3 taken.0 taken.1,
       drop_more_set out c.args.out.now count _ inv.4,
     )
 
@@ -58,6 +59,6 @@ returns g c =
       sound = c.take.ensures.sound;
       emptied = none.1;
       few = omega arith;
-      drained = drain_all (λ a b. w.le (w.value a) (w.value b)) (q.key c.args.queue.now) (q.key c.loop-entry.queue) (take c.loop-entry.count c.loop-entry.out) none.0 inv.3;
+      drained = drain_all (no_heavier w) (q.key c.args.queue.now) (q.key c.loop-entry.queue) (take c.loop-entry.count c.loop-entry.out) none.0 inv.3;
       rest = inv.4;
     }

@@ -1,32 +1,37 @@
-use Rattle.std.proofs.Common.{◌≡◌, sym, ◌∙◌, arith}
+use Rattle.std.proofs.Common.{◌≡◌, ◌<◌, length, get_or, None, refl, sym, ◌∙◌, arith}
+use Rattle.std.proofs.lemmas.Option.{slice_get_read, get_or_from_slice_get}
+use Rattle.queues.specs.Keys.{no_heavier}
 use Rattle.queues.proofs.Orders.{ordered}
 use Rattle.drains.specs.Ties.{keyed}
 use Rattle.drains.proofs.Picking.{pick_skip, pick_keep, pick_new, pick_all, pick_reached, keyed_past}
+use Rattle.drains.proofs.tied.TiedQueue.pick.Goals.{in-Some+then-preferred, in-Some+else-preferred, in_default}
 use Rattle.drains.proofs.tied.TiedQueue.pick.Goals as goal
-
-pub loop-group-preserved-in_default : goal.loop-group-preserved-in_default
-loop-group-preserved-in_default g c =
-    let w = g.W.Weight in
-    pick_skip (λ a b. w.le (w.value a) (w.value b)) (ordered w.value g.met.W.Weight.laws g.met.W.Weight.bounded) c.args.self.now.tie (keyed c.args.self.now.keys) c.loop-group.group (sym c.key_of.ensures.key ∙ c.in_default.is) c.loop-group.best c.loop-group.invariant
-
-pub loop-group-preserved-then-not-preferred : goal.loop-group-preserved-then-not-preferred
-loop-group-preserved-then-not-preferred g c =
-    let w = g.W.Weight in
-    pick_keep (λ a b. w.le (w.value a) (w.value b)) (ordered w.value g.met.W.Weight.laws g.met.W.Weight.bounded) (keyed c.args.self.now.keys) c.loop-group.group (omega arith) c.in-Some.key (sym c.key_of.ensures.key ∙ c.in-Some.is) c.args.self.now.tie c.loop-group.best c.loop-group.invariant (sym c.preferred.ensures ∙ c.if-not-preferred.true)
 
 pub loop-group-preserved : goal.loop-group-preserved
 loop-group-preserved g c =
     let w = g.W.Weight in
-    pick_new (λ a b. w.le (w.value a) (w.value b)) (ordered w.value g.met.W.Weight.laws g.met.W.Weight.bounded) (keyed c.args.self.now.keys) c.loop-group.group (omega arith) c.in-Some.key (sym c.key_of.ensures.key ∙ c.in-Some.is) c.args.self.now.tie c.loop-group.best c.loop-group.invariant (sym c.preferred.ensures ∙ c.if-not-preferred.false)
+    let laws = ordered w.value g.met.W.Weight.laws g.met.W.Weight.bounded in
+    let keys = c.args.self.now.keys in
+    let tie = c.args.self.now.tie in
+    let i = c.loop-group.group in
+    let size = c.requires in
+    let low : i < length keys = omega arith in
+    let own : keyed keys i ≡ get_or keys i c.key-item.result = get_or_from_slice_get keys i c.key-item.result None (slice_get_read keys (length keys) i c.key-item.result refl low c.key-item.is) ∙ c.key-item.is in
+    elim c.match-key.branch [
+      in-Some+then-preferred w' ↦ rw w'.best-is (pick_new (no_heavier w) laws (keyed keys) i (omega arith) w'.in-Some.key (own ∙ w'.in-Some.is) tie c.loop-group.best c.loop-group.invariant (sym w'.preferred.ensures ∙ w'.if-preferred.true))
+    | in-Some+else-preferred w' ↦ rw w'.best-is (pick_keep (no_heavier w) laws (keyed keys) i (omega arith) w'.in-Some.key (own ∙ w'.in-Some.is) tie c.loop-group.best c.loop-group.invariant (sym w'.preferred.ensures ∙ w'.if-preferred.false))
+    | in_default w' ↦ rw w'.best-is (pick_skip (no_heavier w) laws tie (keyed keys) i (own ∙ w'.in_default.is) c.loop-group.best c.loop-group.invariant)
+    ]
 
 pub returns : goal.returns
 returns g c =
     let w = g.W.Weight in
     let laws = ordered w.value g.met.W.Weight.laws g.met.W.Weight.bounded in
     let keys = c.args.self.now.keys in
+    let size = c.requires in
     let e : c.loop-group.group ≡ 64 = omega arith in
     let inv = rw e at c.loop-group.invariant in
     record {
-      within = pick_reached (λ a b. w.le (w.value a) (w.value b)) laws c.args.self.now.tie (keyed keys) 64 c.loop-group.best inv;
-      picked = pick_all (λ a b. w.le (w.value a) (w.value b)) laws c.args.self.now.tie (keyed keys) (keyed_past keys c.requires) c.loop-group.best inv;
+      within = pick_reached (no_heavier w) laws c.args.self.now.tie (keyed keys) 64 c.loop-group.best inv;
+      picked = pick_all (no_heavier w) laws c.args.self.now.tie (keyed keys) (keyed_past keys c.requires) c.loop-group.best inv;
     }

@@ -1,4 +1,5 @@
 use Rattle.std.proofs.Common.{◌-◌, None, ◌∙◌, arith}
+use Rattle.queues.specs.Keys.{no_heavier}
 use Rattle.queues.proofs.Slotted.{update_ap}
 use Rattle.heaps.specs.Entries.{before}
 use Rattle.heaps.specs.Heaped.{placed, standing, heap_key}
@@ -21,7 +22,7 @@ sift_down-requires g c =
         agrees = pop_agrees (standing after) (placed after.places) after.count (q.count - 1) swapped.kept.agrees (omega arith);
       };
       within = omega arith;
-      sinking = sinking_last (before (λ a b. w.le (w.value a) (w.value b))) (standing q) (standing after) q.count c.requires.sound.order (q.count - 1) (omega arith) swapped.swapped;
+      sinking = sinking_last (before (no_heavier w)) (standing q) (standing after) q.count c.requires.sound.order (q.count - 1) (omega arith) swapped.swapped;
     }
 
 pub returns : goal.returns

@@ -1,4 +1,5 @@
 use Rattle.std.proofs.Common.{◌∙◌, arith}
+use Rattle.queues.specs.Keys.{no_heavier}
 use Rattle.heaps.specs.Entries.{before}
 use Rattle.heaps.specs.Heaped.{placed, standing}
 use Rattle.heaps.proofs.Order.{rising_new}
@@ -29,7 +30,7 @@ sift_up-requires g c =
         agrees = push_agrees (standing q) (standing after) (placed q.places) (placed after.places) q.count c.args.entry kept.agrees c.requires.group c.requires.free wrote.entry wrote.place;
       };
       within = omega arith;
-      rising = rising_new (before (λ a b. w.le (w.value a) (w.value b))) (standing q) (standing after) q.count c.requires.sound.order c.args.entry wrote.entry;
+      rising = rising_new (before (no_heavier w)) (standing q) (standing after) q.count c.requires.sound.order c.args.entry wrote.entry;
     }
 
 pub returns : goal.returns

@@ -1,4 +1,5 @@
 use Rattle.std.proofs.Common.{sym, ◌∙◌, arith}
+use Rattle.queues.specs.Keys.{no_heavier}
 use Rattle.queues.proofs.Orders.{ordered}
 use Rattle.heaps.specs.Entries.{before}
 use Rattle.heaps.specs.Heaped.{placed, standing}
@@ -37,7 +38,7 @@ sift_up-requires g c =
         agrees = rw count (raise_agrees (standing q) (standing after) (placed q.places) (placed after.places) q.count c.args.at old.entry c.args.entry kept.agrees lt old.is more.0 wrote.entry wrote.place);
       };
       within = omega arith;
-      rising = rw count (rising_raised (before (λ a b. w.le (w.value a) (w.value b))) (standing q) (standing after) q.count c.requires.sound.order (entry_ranks (λ a b. w.le (w.value a) (w.value b)) laws) c.args.at old.entry c.args.entry old.is (before_raised (λ a b. w.le (w.value a) (w.value b)) laws old.entry c.args.entry (sym more.0) more.1) wrote.entry);
+      rising = rw count (rising_raised (before (no_heavier w)) (standing q) (standing after) q.count c.requires.sound.order (entry_ranks (no_heavier w) laws) c.args.at old.entry c.args.entry old.is (before_raised (no_heavier w) laws old.entry c.args.entry (sym more.0) more.1) wrote.entry);
     }
 
 pub returns : goal.returns

@@ -1,4 +1,5 @@
 use Rattle.std.proofs.Common.{sym, ◌∙◌}
+use Rattle.queues.specs.Keys.{no_heavier}
 use Rattle.queues.proofs.Orders.{ordered}
 use Rattle.heaps.specs.Entries.{before}
 use Rattle.heaps.specs.Heaped.{standing}
@@ -9,7 +10,7 @@ use Rattle.heaps.proofs.heap.HeapQueue.sift_down.Goals as goal
 pub returns-then-not-is_before : goal.returns-then-not-is_before
 returns-then-not-is_before g c =
     let w = g.W.Weight in
-    let ranks = entry_ranks (λ a b. w.le (w.value a) (w.value b)) (ordered w.value g.met.W.Weight.laws g.met.W.Weight.bounded) in
+    let ranks = entry_ranks (no_heavier w) (ordered w.value g.met.W.Weight.laws g.met.W.Weight.bounded) in
     let q = c.loop-child.self in
     let inv = c.loop-child.invariant in
     let eldest = c.in-Some.ensures in
@@ -17,7 +18,7 @@ returns-then-not-is_before g c =
     record {
       sound = record {
         kept = inv.0;
-        order = sink_end (before (λ a b. w.le (w.value a) (w.value b))) ranks (standing q) q.count c.loop-child.i inv.2
+        order = sink_end (before (no_heavier w)) ranks (standing q) q.count c.loop-child.i inv.2
             (λ k child lt a b ia kb. ranks.chain b x.entry a (eldest.2 k child lt x.entry b x.is kb) (sym (c.is_before.ensures x.entry a x.is ia) ∙ c.if-not-is_before.true));
       };
       keys = inv.3;
@@ -27,13 +28,13 @@ returns-then-not-is_before g c =
 pub returns-in_default : goal.returns-in_default
 returns-in_default g c =
     let w = g.W.Weight in
-    let ranks = entry_ranks (λ a b. w.le (w.value a) (w.value b)) (ordered w.value g.met.W.Weight.laws g.met.W.Weight.bounded) in
+    let ranks = entry_ranks (no_heavier w) (ordered w.value g.met.W.Weight.laws g.met.W.Weight.bounded) in
     let q = c.loop-child.self in
     let inv = c.loop-child.invariant in
     record {
       sound = record {
         kept = inv.0;
-        order = sink_end (before (λ a b. w.le (w.value a) (w.value b))) ranks (standing q) q.count c.loop-child.i inv.2 (λ k child lt. absurd (c.in_default.ensures k child lt));
+        order = sink_end (before (no_heavier w)) ranks (standing q) q.count c.loop-child.i inv.2 (λ k child lt. absurd (c.in_default.ensures k child lt));
       };
       keys = inv.3;
       memory = inv.4;

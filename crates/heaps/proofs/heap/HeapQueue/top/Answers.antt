@@ -1,4 +1,5 @@
 use Rattle.std.proofs.Common.{◌<◌, arith}
+use Rattle.queues.specs.Keys.{no_heavier}
 use Rattle.queues.proofs.Orders.{ordered}
 use Rattle.heaps.specs.Heaped.{placed, standing}
 use Rattle.heaps.proofs.Tables.{key_past}
@@ -19,6 +20,6 @@ returns g c =
     let some : 0 < q.count = omega (arith, c.if-self-eq0.false) in (
       some,
       c.entry.ensures,
-      top_heaviest (λ a b. w.le (w.value a) (w.value b)) laws (standing q) (placed q.places) q.count c.requires.kept.agrees c.requires.order some c.entry.result c.entry.ensures,
-      top_lowest (λ a b. w.le (w.value a) (w.value b)) laws (standing q) (placed q.places) q.count c.requires.kept.agrees c.requires.order some c.entry.result c.entry.ensures,
+      top_heaviest (no_heavier w) laws (standing q) (placed q.places) q.count c.requires.kept.agrees c.requires.order some c.entry.result c.entry.ensures,
+      top_lowest (no_heavier w) laws (standing q) (placed q.places) q.count c.requires.kept.agrees c.requires.order some c.entry.result c.entry.ensures,
     )
