@@ -18,9 +18,9 @@ loop-group-preserved g c =
     let low : i < length keys = omega arith in
     let own : keyed keys i ≡ get_or keys i c.key-item.result = get_or_from_slice_get keys i c.key-item.result None (slice_get_read keys (length keys) i c.key-item.result refl low c.key-item.is) ∙ c.key-item.is in
     elim c.match-key.branch [
-      in-Some+then-preferred w' ↦ rw w'.best-is (pick_new (no_heavier w) laws (keyed keys) i (omega arith) w'.in-Some.key (own ∙ w'.in-Some.is) tie c.loop-group.best c.loop-group.invariant (sym w'.preferred.ensures ∙ w'.if-preferred.true))
-    | in-Some+else-preferred w' ↦ rw w'.best-is (pick_keep (no_heavier w) laws (keyed keys) i (omega arith) w'.in-Some.key (own ∙ w'.in-Some.is) tie c.loop-group.best c.loop-group.invariant (sym w'.preferred.ensures ∙ w'.if-preferred.false))
-    | in_default w' ↦ rw w'.best-is (pick_skip (no_heavier w) laws tie (keyed keys) i (own ∙ w'.in_default.is) c.loop-group.best c.loop-group.invariant)
+      | in-Some+then-preferred w' ↦ rw w'.best-is (pick_new (no_heavier w) laws (keyed keys) i (omega arith) w'.in-Some.key (own ∙ w'.in-Some.is) tie c.loop-group.best c.loop-group.invariant (sym w'.preferred.ensures ∙ w'.if-preferred.true))
+      | in-Some+else-preferred w' ↦ rw w'.best-is (pick_keep (no_heavier w) laws (keyed keys) i (omega arith) w'.in-Some.key (own ∙ w'.in-Some.is) tie c.loop-group.best c.loop-group.invariant (sym w'.preferred.ensures ∙ w'.if-preferred.false))
+      | in_default w' ↦ rw w'.best-is (pick_skip (no_heavier w) laws tie (keyed keys) i (own ∙ w'.in_default.is) c.loop-group.best c.loop-group.invariant)
     ]
 
 pub returns : goal.returns
