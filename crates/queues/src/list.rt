@@ -174,6 +174,7 @@ fn empty_between<W: Weight>(slots: &mut [Slot<W>], from: usize, to: usize)
     ensures rest { (g : ℕ) → to ≤ g → keyed slots.new g ≡ keyed slots.old g }
     ensures memory { Unsettled to slots.old slots.new }
 {
+    // by index: over a part of the slots the places would be counted from `from`, and the clauses name them
     for i in from..to {
         slots[i].key = None;
     }
