@@ -1,15 +1,18 @@
 // The calls, as they are made on a filing, and what is seen of each.
-ghost use Rattle.std.specs.Prelude.{◌≡◌, ℕ, ◌≤◌, IfOk, vec_len};
+ghost use Rattle.std.specs.Prelude.{◌≡◌, ◌≤◌, IfOk, vec_len};
 ghost use Rattle.plans.specs.Sound.{Sound};
 
-use crate::model::{Answered, Lent, Parts, Reply, UNTOUCHED};
+use crate::model::{Answered, Lent, NOTHING, Reply, Seen, Trouble, UNTOUCHED};
+use answers::trial::trial;
+use answers::weakest::weakest;
 use cuts::entry::Entry;
 use cuts::ground::Ground;
-use filings::answer::Answer;
-use filings::filing::Filing;
+use kept_plans::filing::Filing;
 use queues::list::{ListQueue, Slot};
-use queues::queue::{GROUPS, PriorityQueue};
+use queues::queue::GROUPS;
 use refusals::Refusal;
+use samples::wire::{Parts, parts_of};
+use solvers::answer::Answer;
 use std::alloc::{AllocError, Global};
 use weights::weight::Weight;
 
@@ -27,11 +30,10 @@ pub enum Call {
     Trial(usize, Lent),
 }
 
-// A reply, with the memory for marks after a call that was lent some.
-#[derive(Drop)]
-pub struct Outcome {
-    pub reply: Reply,
-    pub marks: Vec<u8>,
+impl From<Refusal> for Trouble {
+    fn from(why: Refusal) -> Trouble {
+        Trouble::Refused(why.number())
+    }
 }
 
 // What the memory for record entries holds before it is lent.
@@ -45,169 +47,143 @@ const BLANK: Entry = Entry {
 // What each lent weight has as its first part before a call.
 const FILLED: u32 = 7;
 
-// Memory to lend: so many copies of an item.
-pub fn filled<T: Copy>(heap: Global, item: T, count: usize) -> Result<Vec<T>, AllocError>
-    ensures { IfOk result (λ v. vec_len v ≡ count) }
-{
-    let mut items = Vec::new(heap);
-    for i in 0..count {
-        items.push(item)?;
+// Memory that is lent for an answer, filled so that a change of it shows.
+#[derive(Drop)]
+struct Memory<W> {
+    marks: Vec<u8>,
+    entries: Vec<Entry>,
+    table: Vec<W>,
+    slots: Vec<Slot<W>>,
+}
+
+impl<W: Weight> Memory<W> {
+    fn new(heap: Global, lent: Lent) -> Result<Memory<W>, AllocError>
+        ensures { IfOk result (λ memory. vec_len memory.slots ≡ 64) }
+    {
+        let weight = W::from_parts(&[FILLED]).unwrap_or(W::nothing());
+        Ok(Memory {
+            marks: vec![in heap; UNTOUCHED; lent.marks]?,
+            entries: vec![in heap; BLANK; lent.entries]?,
+            table: vec![in heap; weight; lent.weights]?,
+            slots: vec![in heap; Slot::empty(); GROUPS]?,
+        })
     }
-    Ok(items)
-}
 
-pub fn parts_of<W: Weight>(weight: W) -> Parts {
-    (weight.part(0), weight.part(1))
-}
-
-fn done(outcome: Result<(), Refusal>) -> Reply {
-    match outcome {
-        Ok(()) => Reply::Done,
-        Err(why) => Reply::Refused(why.number()),
-    }
-}
-
-fn numbered(outcome: Result<usize, Refusal>) -> Reply {
-    match outcome {
-        Ok(number) => Reply::Number(number),
-        Err(why) => Reply::Refused(why.number()),
-    }
-}
-
-fn weighed<W: Weight>(outcome: Result<W, Refusal>) -> Reply {
-    match outcome {
-        Ok(weight) => Reply::Weight(parts_of(weight)),
-        Err(why) => Reply::Refused(why.number()),
-    }
-}
-
-// How many of the first weights are nothing, if all the others are as they were filled.
-fn cleared<W: Weight>(table: &[W]) -> Option<usize> {
-    let mut count = 0usize;
-    for (place, weight) in table.iter().enumerate() {
-        match parts_of(*weight) {
-            (0, 0) if count == place => count = count.saturating_add(1),
-            (FILLED, 0) => {}
-            _ => return None,
+    // The weakest division, or that with one link out of service, in this memory.
+    fn ask(&mut self, filing: &mut Filing<W>, without: Option<usize>) -> Result<Answer<W>, Refusal>
+        requires slots { 64 ≤ vec_len self.old.slots }
+        requires plan { Sound W.Weight filing.old.plan }
+        ensures { Sound W.Weight filing.new.plan }
+    {
+        let mut queue = ListQueue::over(self.slots.as_mut_slice());
+        let marks = self.marks.as_mut_slice();
+        let entries = self.entries.as_mut_slice();
+        let table = self.table.as_mut_slice();
+        match without {
+            None => weakest(filing, &mut queue, marks, entries, table),
+            Some(link) => trial(filing, link, &mut queue, marks, entries, table),
         }
     }
-    Some(count)
-}
 
-fn are_untouched(marks: &[u8]) -> bool {
-    for mark in marks {
-        if *mark != UNTOUCHED {
-            return false;
-        }
+    // How many of the first weights are nothing, if all the others are as they were filled.
+    fn cleared(&self) -> Option<usize> {
+        let count = self
+            .table
+            .iter()
+            .take_while(|weight| parts_of(**weight) == NOTHING)
+            .count();
+        self.table
+            .iter()
+            .skip(count)
+            .all(|weight| parts_of(*weight) == (FILLED, 0))
+            .then_some(count)
     }
-    true
-}
 
-// An answer, or a refusal, with what has become of the lent memory.
-fn answered<W: Weight>(outcome: Result<Answer<W>, Refusal>, marks: &[u8], table: &[W]) -> Reply {
-    let Some(cleared) = cleared(table) else {
-        return Reply::WrongMemory;
-    };
-    match outcome {
-        Err(_) if cleared != 0 || !are_untouched(marks) => Reply::WrongMemory,
-        Err(why) => Reply::Refused(why.number()),
-        Ok(answer) => Reply::Answer(Answered {
+    // An answer, or a refusal, with what has become of the memory.
+    fn reply(&self, outcome: Result<Answer<W>, Refusal>) -> Result<Reply, Trouble> {
+        let cleared = self.cleared().ok_or(Trouble::WrongMemory)?;
+        let touched = cleared != 0 || self.marks.iter().any(|mark| *mark != UNTOUCHED);
+        if outcome.is_err() && touched {
+            return Err(Trouble::WrongMemory);
+        }
+        let answer = outcome?;
+        Ok(Reply::Answer(Answered {
             figure: parts_of(answer.figure),
             kept: answer.kept,
             mergers: answer.mergers,
             scans: answer.scans,
             cleared,
-        }),
+        }))
     }
 }
 
-// The weakest division, or that with one link out of service, in lent memory.
-fn ask<W: Weight, Q: PriorityQueue<Weight = W>>(
-    filing: &mut Filing<W>,
-    without: Option<usize>,
-    queue: &mut Q,
-    marks: &mut [u8],
-    entries: &mut [Entry],
-    table: &mut [W],
-) -> Result<Answer<W>, Refusal>
-    requires plan { Sound W.Weight filing.old.plan }
-    requires queue { Q.PriorityQueue.sound queue.old }
-    ensures { Sound W.Weight filing.new.plan }
-{
-    match without {
-        None => filing.weakest(queue, marks, entries, table),
-        Some(link) => filing.trial(link, queue, marks, entries, table),
-    }
-}
-
-// Asks in memory of the wanted sizes that is made for it.
-fn worked_out<W: Weight>(
+// Asks in memory of the wanted sizes that is made for it, and hands out that for marks.
+fn asked<W: Weight>(
     heap: Global,
     filing: &mut Filing<W>,
     without: Option<usize>,
     lent: Lent,
-) -> anyhow::Result<Outcome>
+    marks: &mut Vec<u8>,
+) -> Result<Reply, Trouble>
     requires { Sound W.Weight filing.old.plan }
     ensures { Sound W.Weight filing.new.plan }
 {
-    let weight = W::from_parts(&[FILLED]).unwrap_or(W::nothing());
-    let mut marks = filled(heap, UNTOUCHED, lent.marks)?;
-    let mut entries = filled(heap, BLANK, lent.entries)?;
-    let mut table = filled(heap, weight, lent.weights)?;
-    let mut slots = filled(heap, Slot::<W>::empty(), GROUPS)?;
-    let mut queue = ListQueue::over(slots.as_mut_slice());
-    let outcome = ask(
-        filing,
-        without,
-        &mut queue,
-        marks.as_mut_slice(),
-        entries.as_mut_slice(),
-        table.as_mut_slice(),
-    );
-    let reply = answered(outcome, marks.as_slice(), table.as_slice());
-    Ok(Outcome { reply, marks })
+    let mut memory = Memory::new(heap, lent)?;
+    let outcome = memory.ask(filing, without);
+    let reply = memory.reply(outcome);
+    *marks = memory.marks;
+    reply
 }
 
-fn link<W: Weight>(filing: &mut Filing<W>, first: usize, second: usize, parts: Parts) -> Reply
-    requires { Sound W.Weight filing.old.plan }
-    ensures { Sound W.Weight filing.new.plan }
-{
-    match W::from_parts(&[parts.0, parts.1]) {
-        Ok(weight) => numbered(filing.link(first, second, weight)),
-        Err(why) => Reply::Refused(why.number()),
-    }
+// The library's weight with some parts.
+fn weight_of<W: Weight>(parts: Parts) -> Result<W, Refusal> {
+    W::from_parts(&[parts.0, parts.1])
 }
 
-fn reweigh<W: Weight>(filing: &mut Filing<W>, link: usize, parts: Parts) -> Reply
+fn made<W: Weight>(
+    heap: Global,
+    filing: &mut Filing<W>,
+    call: &Call,
+    marks: &mut Vec<u8>,
+) -> Result<Reply, Trouble>
     requires { Sound W.Weight filing.old.plan }
     ensures { Sound W.Weight filing.new.plan }
 {
-    match W::from_parts(&[parts.0, parts.1]) {
-        Ok(weight) => done(filing.reweigh(link, weight)),
-        Err(why) => Reply::Refused(why.number()),
+    match call {
+        Call::Enter(text) => Ok(Reply::Number(filing.enter(text.as_slice())?)),
+        Call::Recode(unit, text) => {
+            filing.recode(*unit, text.as_slice())?;
+            Ok(Reply::Done)
+        }
+        Call::Link(first, second, parts) => {
+            let weight = weight_of(*parts)?;
+            Ok(Reply::Number(filing.link(*first, *second, weight)?))
+        }
+        Call::Strike(link) => {
+            filing.strike(*link)?;
+            Ok(Reply::Done)
+        }
+        Call::Reweigh(link, parts) => {
+            let weight = weight_of(*parts)?;
+            filing.reweigh(*link, weight)?;
+            Ok(Reply::Done)
+        }
+        Call::Mark(link, mark) => {
+            filing.mark(*link, *mark)?;
+            Ok(Reply::Done)
+        }
+        Call::Weigh(given) => Ok(Reply::Weight(parts_of(filing.weigh(given.as_slice())?))),
+        Call::Weakest(lent) => asked(heap, filing, None, *lent, marks),
+        Call::Trial(link, lent) => asked(heap, filing, Some(*link), *lent, marks),
     }
 }
 
 // Makes a call on a filing.
-pub fn perform<W: Weight>(
-    heap: Global,
-    filing: &mut Filing<W>,
-    call: &Call,
-) -> anyhow::Result<Outcome>
+pub fn perform<W: Weight>(heap: Global, filing: &mut Filing<W>, call: &Call) -> Seen
     requires { Sound W.Weight filing.old.plan }
     ensures { Sound W.Weight filing.new.plan }
 {
-    let reply = match call {
-        Call::Enter(text) => numbered(filing.enter(text.as_slice())),
-        Call::Recode(unit, text) => done(filing.recode(*unit, text.as_slice())),
-        Call::Link(first, second, parts) => link(filing, *first, *second, *parts),
-        Call::Strike(link) => done(filing.strike(*link)),
-        Call::Reweigh(link, parts) => reweigh(filing, *link, *parts),
-        Call::Mark(link, mark) => done(filing.mark(*link, *mark)),
-        Call::Weigh(marks) => weighed(filing.weigh(marks.as_slice())),
-        Call::Weakest(lent) => return worked_out(heap, filing, None, *lent),
-        Call::Trial(link, lent) => return worked_out(heap, filing, Some(*link), *lent),
-    };
-    let marks = Vec::new(heap);
-    Ok(Outcome { reply, marks })
+    let mut marks = Vec::new(heap);
+    let reply = made(heap, filing, call, &mut marks);
+    Seen { reply, marks }
 }

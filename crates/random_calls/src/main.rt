@@ -2,15 +2,18 @@
 // model that is written from docs/RULES.md alone.
 #![tactic(auto)]
 
-ghost use Rattle.std.specs.Prelude.{ℕ, ◌≤◌};
 ghost use Rattle.plans.specs.Sound.{Sound};
 
-use crate::calls::{Call, filled, perform};
+use crate::calls::{Call, perform};
 use crate::compare::{expect, is_same};
-use crate::draws::{Dice, Kind, draw};
-use crate::model::{Model, Reply};
-use filings::filing::Filing;
+use crate::draws::{Draws, Form, Kind};
+use crate::model::{Model, Trouble};
+use anyhow::ensure;
+use kept_plans::filing::Filing;
 use plans::plan::{LINKS, Link};
+use samples::dice::Dice;
+use std::alloc::Global;
+use std::fmt;
 use weights::plain::Plain;
 use weights::ranked::Ranked;
 use weights::weight::Weight;
@@ -32,9 +35,16 @@ struct Tally {
     deviations: u64,
 }
 
+impl fmt::Display for Tally {
+    fn fmt<W: fmt::Write>(&self, f: &mut fmt::Formatter<W>) -> fmt::Result {
+        write!(f, "{} calls, {} deviations", self.calls, self.deviations)
+    }
+}
+
 // Makes one call on the filing and on the model, and names the call if they differ.
 fn step<W: Weight>(
-    rt: &HostRuntime,
+    rt: &impl Print,
+    heap: Global,
     filing: &mut Filing<W>,
     model: &mut Model,
     call: &Call,
@@ -43,9 +53,11 @@ fn step<W: Weight>(
     requires { Sound W.Weight filing.old.plan }
     ensures { Sound W.Weight filing.new.plan }
 {
-    let seen = perform(rt.alloc(), filing, call)?;
+    let seen = perform(heap, filing, call);
     let reply = seen.reply;
-    let expected = expect(rt.alloc(), model, call, &seen)?;
+    let expected = expect(heap, model, call, &seen);
+    let none = Err(Trouble::NoMemory);
+    ensure!(reply != none && expected != none, "out of memory");
     tally.calls = tally.calls.saturating_add(1);
     let same = is_same(filing, model);
     if reply == expected && same {
@@ -64,61 +76,50 @@ fn step<W: Weight>(
 
 // A run of calls, from a plan with no units.
 fn run<W: Weight>(
-    rt: &HostRuntime,
-    dice: &mut Dice,
-    kind: Kind,
+    rt: &impl Print,
+    draws: &mut Draws,
     calls: usize,
     tally: &mut Tally,
 ) -> anyhow::Result<()> {
-    let mut links = filled(rt.alloc(), Link::<W>::blank(), LINKS)?;
+    let heap = draws.heap;
+    let mut links = vec![in heap; Link::<W>::blank(); LINKS]?;
     let mut filing = Filing::open(links.as_mut_slice());
-    let mut model = Model::new(rt.alloc());
+    let mut model = Model::new(heap);
     for turn in 0..calls {
-        let call = draw(rt.alloc(), dice, kind, &model, turn)?;
-        step(rt, &mut filing, &mut model, &call, tally)?;
+        let call = draws.call(&model, turn)?;
+        step(rt, heap, &mut filing, &mut model, &call, tally)?;
     }
     Ok(())
 }
 
 // All runs of one weight kind.
-fn runs<W: Weight>(rt: &HostRuntime, ranked: bool, tally: &mut Tally) -> anyhow::Result<()> {
-    let mut dice = Dice::new(if ranked { 20_001 } else { 20_000 });
-    let few = Kind {
-        ranked,
-        filling: false,
-        woven: false,
-        codes: 0,
+fn runs<W: Weight>(
+    rt: &impl Print,
+    heap: Global,
+    ranked: bool,
+    tally: &mut Tally,
+) -> anyhow::Result<()> {
+    let mut draws = Draws {
+        heap,
+        dice: Dice::new(if ranked { 20_001 } else { 20_000 }),
+        kind: Kind {
+            ranked,
+            form: Form::Short,
+            codes: 0,
+        },
     };
     for codes in [3, 4, 5, 6, 7, 8, 9, 10] {
-        run::<W>(rt, &mut dice, Kind { codes, ..few }, SHORT, tally)?;
+        draws.kind.codes = codes;
+        run::<W>(rt, &mut draws, SHORT, tally)?;
     }
-    let woven = true;
+    draws.kind.form = Form::Woven;
     for codes in [6, 8, 12] {
-        run::<W>(
-            rt,
-            &mut dice,
-            Kind {
-                codes,
-                woven,
-                ..few
-            },
-            SHORT,
-            tally,
-        )?;
+        draws.kind.codes = codes;
+        run::<W>(rt, &mut draws, SHORT, tally)?;
     }
-    let filling = true;
-    let codes = 200;
-    run::<W>(
-        rt,
-        &mut dice,
-        Kind {
-            codes,
-            filling,
-            ..few
-        },
-        LONG,
-        tally,
-    )
+    draws.kind.form = Form::Filling;
+    draws.kind.codes = 200;
+    run::<W>(rt, &mut draws, LONG, tally)
 }
 
 fn main(rt: HostRuntime) -> anyhow::Result<()> {
@@ -126,10 +127,8 @@ fn main(rt: HostRuntime) -> anyhow::Result<()> {
         calls: 0,
         deviations: 0,
     };
-    runs::<Plain>(&rt, false, &mut tally)?;
-    runs::<Ranked>(&rt, true, &mut tally)?;
-    let calls = tally.calls;
-    let deviations = tally.deviations;
-    println!(rt; "{calls} calls, {deviations} deviations")?;
+    runs::<Plain>(&rt, rt.alloc(), false, &mut tally)?;
+    runs::<Ranked>(&rt, rt.alloc(), true, &mut tally)?;
+    println!(rt; "{tally}")?;
     Ok(())
 }

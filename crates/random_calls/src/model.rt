@@ -1,26 +1,16 @@
 // A plan as docs/RULES.md describes it, in plain lists, apart from the library: each call is checked, made and answered
 // by itself. A plain weight stands as two parts with the second 0, so that one model serves both kinds.
-use crate::model::divisions::{cut, heavier};
-use std::alloc::Global;
+use crate::model::divisions::Network;
+use samples::wire::{Parts, Wire};
+use std::alloc::{AllocError, AllocFailed, Global};
 
-pub mod answers;
 pub mod divisions;
-
-// The parts of a weight.
-pub type Parts = (u32, u32);
+pub mod workings;
 
 pub const NOTHING: Parts = (0, 0);
 
 // What the memory for marks holds before it is lent.
 pub const UNTOUCHED: u8 = 9;
-
-// A link: its two ends, whether it is in service, and the parts of its weight.
-#[derive(Clone, Copy)]
-pub struct Wire {
-    pub ends: (usize, usize),
-    pub serves: bool,
-    pub parts: Parts,
-}
 
 // How much memory is lent for an answer: marks, record entries and weights.
 #[derive(Clone, Copy, Debug)]
@@ -40,18 +30,33 @@ pub struct Answered {
     pub cleared: usize,
 }
 
-// What a call answers.
+// What an accepted call answers.
 #[derive(Clone, Copy, PartialEq, Eq, Debug)]
 pub enum Reply {
-    Refused(u8),
     Done,
     Number(usize),
     Weight(Parts),
     Answer(Answered),
+}
+
+// Why a call has no reply.
+#[derive(Clone, Copy, PartialEq, Eq, Debug)]
+pub enum Trouble {
+    // it is refused with this number
+    Refused(u8),
     // the marks of an answer are not those of its figure, or not those that were kept
     WrongMarks,
     // memory is changed that should not be
     WrongMemory,
+    // there is no memory for the call or for the model
+    NoMemory,
+}
+
+// What is seen of a call: the reply, and the memory for marks after a call that was lent some.
+#[derive(Drop)]
+pub struct Seen {
+    pub reply: Result<Reply, Trouble>,
+    pub marks: Vec<u8>,
 }
 
 #[derive(Drop)]
@@ -62,18 +67,38 @@ pub struct Model {
     kept: Option<Vec<u8>>,
 }
 
-fn is_code(text: &[u8]) -> bool {
-    if text.len() < 6 || text.len() > 7 {
-        return false;
+impl From<AllocError> for Trouble {
+    fn from(_error: AllocError) -> Trouble {
+        Trouble::NoMemory
     }
-    for letter in text {
-        let capital = b'A' <= *letter && *letter <= b'Z';
-        let digit = b'0' <= *letter && *letter <= b'9';
-        if !capital && !digit {
-            return false;
+}
+
+impl<T: Drop> From<AllocFailed<T>> for Trouble {
+    fn from(_error: AllocFailed<T>) -> Trouble {
+        Trouble::NoMemory
+    }
+}
+
+impl Lent {
+    // Just as much as so many units need.
+    pub fn exact(units: usize) -> Lent {
+        Lent {
+            marks: units,
+            entries: units,
+            weights: units.saturating_mul(units),
         }
     }
-    text[0] == b'P' || text[0] == b'C' || text[0] == b'B' || text[0] == b'U'
+
+    // Whether it is less than so many units need.
+    pub fn is_short(self, units: usize) -> bool {
+        let exact = Lent::exact(units);
+        self.marks < exact.marks || self.entries < exact.entries || self.weights < exact.weights
+    }
+}
+
+fn is_code(text: &[u8]) -> bool {
+    let known = text.iter().all(|letter| letter.is_ascii_uppercase() || letter.is_ascii_digit());
+    matches!(text.len(), 6 | 7) && known && matches!(text.first(), Some(b'P' | b'C' | b'B' | b'U'))
 }
 
 pub fn amount(parts: Parts) -> u64 {
@@ -94,93 +119,84 @@ impl Model {
         }
     }
 
+    // The amounts of all links.
+    pub fn total(&self) -> u64 {
+        self.wires.iter().fold(0u64, |total, wire| total.saturating_add(amount(wire.parts)))
+    }
+
     // The amounts of all links but one.
-    pub fn total_but(&self, but: usize) -> u64 {
-        let mut total = 0u64;
-        for (number, wire) in self.wires.iter().enumerate() {
-            if number != but {
-                total = total.saturating_add(amount(wire.parts));
-            }
-        }
-        total
+    pub fn total_but(&self, link: usize) -> u64 {
+        let without = self.wires.get(link).map_or(0, |wire| amount(wire.parts));
+        self.total().saturating_sub(without)
     }
 
     // The unit that bears a code.
     fn bearer(&self, text: &[u8]) -> Option<usize> {
-        for (number, code) in self.codes.iter().enumerate() {
-            if code.as_slice() == text {
-                return Some(number);
-            }
-        }
-        None
+        self.codes.iter().position(|code| code.as_slice() == text)
     }
 
     // Between two units the weight in service goes from one to another. Kept marks stay weakest where what they cut
     // gets no heavier, or what they leave whole gets no lighter.
     fn settle(&mut self, ends: (usize, usize), before: Parts, after: Parts) {
-        let stays = match &self.kept {
-            None => false,
-            Some(sides) => {
-                if sides.get(ends.0).copied() == sides.get(ends.1).copied() {
-                    !heavier(before, after)
-                } else {
-                    !heavier(after, before)
-                }
+        let stays = self.kept.as_ref().is_some_and(|sides| {
+            if sides.get(ends.0).copied() == sides.get(ends.1).copied() {
+                before <= after
+            } else {
+                after <= before
             }
-        };
+        });
         if !stays {
             self.kept = None;
         }
     }
 
-    pub fn enter(&mut self, heap: Global, text: &[u8]) -> anyhow::Result<Reply> {
+    pub fn enter(&mut self, heap: Global, text: &[u8]) -> Result<Reply, Trouble> {
         let number = self.codes.len();
         if !is_code(text) {
-            return Ok(Reply::Refused(7));
+            return Err(Trouble::Refused(7));
         }
         if self.bearer(text).is_some() {
-            return Ok(Reply::Refused(8));
+            return Err(Trouble::Refused(8));
         }
         if number >= 64 {
-            return Ok(Reply::Refused(6));
+            return Err(Trouble::Refused(6));
         }
         self.codes.push(text.to_vec(heap)?)?;
         self.kept = None;
         Ok(Reply::Number(number))
     }
 
-    pub fn recode(&mut self, heap: Global, unit: usize, text: &[u8]) -> anyhow::Result<Reply> {
+    pub fn recode(&mut self, heap: Global, unit: usize, text: &[u8]) -> Result<Reply, Trouble> {
         if unit >= self.codes.len() {
-            return Ok(Reply::Refused(9));
+            return Err(Trouble::Refused(9));
         }
         if !is_code(text) {
-            return Ok(Reply::Refused(7));
+            return Err(Trouble::Refused(7));
         }
-        let bearer = self.bearer(text);
-        if bearer.is_some() && bearer != Some(unit) {
-            return Ok(Reply::Refused(8));
+        if self.bearer(text).is_some_and(|bearer| bearer != unit) {
+            return Err(Trouble::Refused(8));
         }
         self.codes[unit] = text.to_vec(heap)?;
         Ok(Reply::Done)
     }
 
-    pub fn link(&mut self, ends: (usize, usize), parts: Parts) -> anyhow::Result<Reply> {
+    pub fn link(&mut self, ends: (usize, usize), parts: Parts) -> Result<Reply, Trouble> {
         let units = self.codes.len();
         let number = self.wires.len();
         if ends.0 >= units || ends.1 >= units {
-            return Ok(Reply::Refused(9));
+            return Err(Trouble::Refused(9));
         }
         if ends.0 == ends.1 {
-            return Ok(Reply::Refused(10));
+            return Err(Trouble::Refused(10));
         }
         if parts == NOTHING {
-            return Ok(Reply::Refused(11));
+            return Err(Trouble::Refused(11));
         }
         if number >= 512 {
-            return Ok(Reply::Refused(6));
+            return Err(Trouble::Refused(6));
         }
-        if self.total_but(number).saturating_add(amount(parts)) > 1_000_000 {
-            return Ok(Reply::Refused(12));
+        if self.total().saturating_add(amount(parts)) > 1_000_000 {
+            return Err(Trouble::Refused(12));
         }
         let serves = true;
         self.wires.push(Wire {
@@ -192,68 +208,70 @@ impl Model {
         Ok(Reply::Number(number))
     }
 
-    pub fn strike(&mut self, link: usize) -> Reply {
+    // A link, if there is one with this number.
+    fn wire(&self, link: usize) -> Result<Wire, Trouble> {
+        self.wires.get(link).copied().ok_or(Trouble::Refused(13))
+    }
+
+    pub fn strike(&mut self, link: usize) -> Result<Reply, Trouble> {
         if link >= self.wires.len() {
-            return Reply::Refused(13);
+            return Err(Trouble::Refused(13));
         }
         let old = self.wires.remove(link);
         self.settle(old.ends, carried(old), NOTHING);
-        Reply::Done
+        Ok(Reply::Done)
     }
 
     // Puts another link in the place of one.
     fn change(&mut self, link: usize, old: Wire, new: Wire) {
-        if link < self.wires.len() {
-            self.wires[link] = new;
+        if let Some(wire) = self.wires.get_mut(link) {
+            *wire = new;
         }
         self.settle(new.ends, carried(old), carried(new));
     }
 
-    pub fn reweigh(&mut self, link: usize, parts: Parts) -> Reply {
-        let Some(old) = self.wires.get(link).copied() else {
-            return Reply::Refused(13);
-        };
+    pub fn reweigh(&mut self, link: usize, parts: Parts) -> Result<Reply, Trouble> {
+        let old = self.wire(link)?;
         if parts == NOTHING {
-            return Reply::Refused(11);
+            return Err(Trouble::Refused(11));
         }
         if self.total_but(link).saturating_add(amount(parts)) > 1_000_000 {
-            return Reply::Refused(12);
+            return Err(Trouble::Refused(12));
         }
         self.change(link, old, Wire { parts, ..old });
-        Reply::Done
+        Ok(Reply::Done)
     }
 
-    pub fn mark(&mut self, link: usize, mark: u8) -> Reply {
-        let Some(old) = self.wires.get(link).copied() else {
-            return Reply::Refused(13);
-        };
+    pub fn mark(&mut self, link: usize, mark: u8) -> Result<Reply, Trouble> {
+        let old = self.wire(link)?;
         let serves = match mark {
             0 => false,
             1 => true,
-            _ => return Reply::Refused(14),
+            _ => return Err(Trouble::Refused(14)),
         };
         self.change(link, old, Wire { serves, ..old });
-        Reply::Done
+        Ok(Reply::Done)
     }
 
-    pub fn weigh(&self, marks: &[u8]) -> Reply {
+    // The plan's links over its units.
+    fn network(&self) -> Network {
+        Network {
+            units: self.codes.len(),
+            wires: self.wires.as_slice(),
+        }
+    }
+
+    pub fn weigh(&self, marks: &[u8]) -> Result<Reply, Trouble> {
         let units = self.codes.len();
         if units < 2 {
-            return Reply::Refused(15);
+            return Err(Trouble::Refused(15));
         }
-        let mut marked = 0usize;
-        for mark in marks {
-            if *mark > 1 {
-                return Reply::Refused(14);
-            }
-            marked = marked.saturating_add(*mark as usize);
+        if marks.len() != units || marks.iter().any(|mark| *mark > 1) {
+            return Err(Trouble::Refused(14));
         }
-        if marks.len() != units {
-            return Reply::Refused(14);
+        if !marks.contains(&0) || !marks.contains(&1) {
+            return Err(Trouble::Refused(15));
         }
-        if marked == 0 || marked == units {
-            return Reply::Refused(15);
-        }
-        Reply::Weight(cut(self.wires.as_slice(), marks))
+        Ok(Reply::Weight(self.network().cut(marks)))
     }
 }

@@ -1,15 +1,14 @@
 // The bytes of a sheet, from docs/SHEET.md alone and with nothing of the library.
+ghost use Rattle.std.specs.Prelude.{◌≤◌};
+
 use crate::drafts::Draft;
 use std::alloc::{AllocError, Global};
 
-// A number, low byte first.
-fn push_number(bytes: &mut Vec<u8>, number: usize, size: usize) -> Result<(), AllocError> {
-    let mut rest = number;
-    for _ in 0..size {
-        bytes.push((rest % 256) as u8)?;
-        rest /= 256;
-    }
-    Ok(())
+// A number in so many bytes, low byte first.
+fn push_number(bytes: &mut Vec<u8>, number: usize, size: usize) -> Result<(), AllocError>
+    requires { size ≤ 8 }
+{
+    bytes.extend_from_slice(&number.to_le_bytes()[..size])
 }
 
 // The sheet of a draft in issue 1 or 2.
@@ -29,7 +28,7 @@ pub fn encode(heap: Global, draft: &Draft, issue: u16) -> Result<Vec<u8>, AllocE
     for wire in draft.wires.iter() {
         push_number(&mut bytes, wire.ends.0, 1)?;
         push_number(&mut bytes, wire.ends.1, 1)?;
-        push_number(&mut bytes, if wire.serves { 1 } else { 0 }, 1)?;
+        bytes.push(u8::from(wire.serves))?;
         push_number(&mut bytes, wire.parts.0 as usize, 4)?;
         if draft.ranked {
             push_number(&mut bytes, wire.parts.1 as usize, 4)?;
@@ -40,13 +39,10 @@ pub fn encode(heap: Global, draft: &Draft, issue: u16) -> Result<Vec<u8>, AllocE
 
 // The number that write is to be refused with, if any.
 pub fn refusal(draft: &Draft, issue: u16, size: usize, room: usize) -> Option<u8> {
-    if issue != 1 && issue != 2 {
-        return Some(2);
+    match issue {
+        1 if draft.codes.iter().any(|code| code.len() == 7) => Some(16),
+        1 | 2 if room < size => Some(17),
+        1 | 2 => None,
+        _ => Some(2),
     }
-    for code in draft.codes.iter() {
-        if issue == 1 && code.len() == 7 {
-            return Some(16);
-        }
-    }
-    if room < size { Some(17) } else { None }
 }

@@ -4,11 +4,12 @@
 
 ghost use Rattle.plans.specs.Sound.{Sound};
 
-use crate::drafts::{Dice, Draft, draw};
-use crate::encoder::{encode, refusal};
-use crate::trips::{build, reads, writes};
+use crate::drafts::{Draft, Draws};
+use crate::trips::{Case, build};
 use plans::plan::{LINKS, Link, Plan};
+use samples::dice::Dice;
 use std::alloc::{AllocError, Global};
+use std::fmt;
 use weights::plain::Plain;
 use weights::ranked::Ranked;
 use weights::weight::Weight;
@@ -34,6 +35,16 @@ impl Tally {
     }
 }
 
+impl fmt::Display for Tally {
+    fn fmt<W: fmt::Write>(&self, f: &mut fmt::Formatter<W>) -> fmt::Result {
+        write!(
+            f,
+            "{} round trips, {} refusals, {} deviations",
+            self.trips, self.refusals, self.deviations
+        )
+    }
+}
+
 // One plan in one issue: written into room enough, exactly enough and one byte too little, read back and written again.
 fn trip<W: Weight>(
     heap: Global,
@@ -46,17 +57,18 @@ fn trip<W: Weight>(
     ensures { Sound W.Weight plan.new }
 {
     tally.note(build(plan, draft).is_ok());
-    let size = encode(heap, draft, issue)?.len();
-    tally.note(writes(heap, plan, draft, issue, size.saturating_add(5))?);
-    tally.note(writes(heap, plan, draft, issue, size)?);
-    tally.note(writes(heap, plan, draft, issue, size.saturating_sub(1))?);
-    if refusal(draft, issue, size, size).is_some() {
+    let case = Case::new(heap, draft, issue)?;
+    let size = case.sheet.len();
+    tally.note(case.writes(heap, plan, size.saturating_add(5))?);
+    tally.note(case.writes(heap, plan, size)?);
+    tally.note(case.writes(heap, plan, size.saturating_sub(1))?);
+    if case.refusal(size).is_some() {
         tally.refusals = tally.refusals.saturating_add(1);
         return Ok(());
     }
     plan.clear();
-    tally.note(reads(heap, plan, draft, issue)?);
-    tally.note(writes(heap, plan, draft, issue, size)?);
+    tally.note(case.reads(plan));
+    tally.note(case.writes(heap, plan, size)?);
     tally.trips = tally.trips.saturating_add(1);
     Ok(())
 }
@@ -67,16 +79,15 @@ fn run<W: Weight>(
     dice: &mut Dice,
     ranked: bool,
     tally: &mut Tally,
-) -> anyhow::Result<()> {
-    let mut memory = Vec::new(heap);
-    memory.resize(LINKS, Link::<W>::blank())?;
+) -> Result<(), AllocError> {
+    let mut memory = vec![in heap; Link::<W>::blank(); LINKS]?;
     let mut plan = Plan::open(memory.as_mut_slice());
+    let mut draws = Draws { heap, dice, ranked };
     for _ in 0..PLANS {
-        let draft = draw(heap, dice, ranked)?;
-        trip(heap, &mut plan, &draft, 1, tally)?;
-        trip(heap, &mut plan, &draft, 2, tally)?;
-        trip(heap, &mut plan, &draft, 3, tally)?;
-        trip(heap, &mut plan, &draft, 257, tally)?;
+        let draft = draws.draft()?;
+        for issue in [1, 2, 3, 257] {
+            trip(heap, &mut plan, &draft, issue, tally)?;
+        }
     }
     Ok(())
 }
@@ -90,9 +101,6 @@ fn main(rt: HostRuntime) -> anyhow::Result<()> {
     let mut dice = Dice::new(30_000);
     run::<Plain>(rt.alloc(), &mut dice, false, &mut tally)?;
     run::<Ranked>(rt.alloc(), &mut dice, true, &mut tally)?;
-    let trips = tally.trips;
-    let refusals = tally.refusals;
-    let deviations = tally.deviations;
-    println!(rt; "{trips} round trips, {refusals} refusals, {deviations} deviations")?;
+    println!(rt; "{tally}")?;
     Ok(())
 }

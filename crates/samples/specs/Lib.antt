@@ -1,0 +1,3 @@
+pub mod Coded
+pub mod Numbers
+pub mod Wires

@@ -1,0 +1,43 @@
+// Numbers that look random, and codes by number.
+ghost use Rattle.std.specs.Prelude.{◌≡◌, ℕ, ◌<◌, ◌≤◌, ◌↔◌, IsTrue};
+ghost use Rattle.samples.specs.Numbers.{following, reduced};
+
+// Numbers that look random, the same in every run.
+#[derive(Drop)]
+pub struct Dice {
+    state: u64,
+}
+
+impl Dice {
+    pub fn new(seed: u64) -> Dice
+        ensures { result.state ≡ seed }
+    {
+        Dice { state: seed }
+    }
+
+    // A number from 0 up to, and without, a bound; 0 where the bound is 0.
+    pub fn below(&mut self, bound: usize) -> usize
+        ensures state { self.new.state ≡ following self.old.state }
+        ensures number { 0 < bound → result ≡ reduced self.new.state bound }
+        ensures less { 0 < bound → result < bound }
+        ensures within { result ≤ bound }
+    {
+        self.state = self
+            .state
+            .wrapping_mul(6364136223846793005)
+            .wrapping_add(1442695040888963407);
+        if bound == 0 {
+            return 0;
+        }
+        (self.state >> 33) as usize % bound
+    }
+
+    // Whether a number below so many is 0, as it is once in so many cases.
+    pub fn one_in(&mut self, cases: usize) -> bool
+        requires { 0 < cases }
+        ensures state { self.new.state ≡ following self.old.state }
+        ensures test { IsTrue result ↔ (reduced self.new.state cases ≡ 0) }
+    {
+        self.below(cases) == 0
+    }
+}

@@ -1,0 +1,59 @@
+// Links as plain values, apart from the library's own.
+ghost use Rattle.std.specs.Prelude.{◌≡◌, ◌↔◌, All, IsTrue, length};
+ghost use Rattle.std.specs.List.{zip};
+ghost use Rattle.plans.specs.Model.{code_of};
+ghost use Rattle.samples.specs.Wires.{parts_of, wire_of};
+
+use plans::plan::{Link, Unit};
+use weights::weight::Weight;
+
+// The parts of a weight, of which the second is 0 at the plain kind.
+pub type Parts = (u32, u32);
+
+// A link: its two ends, whether it is in service, and the parts of its weight.
+#[derive(Clone, Copy, PartialEq, Eq, Debug)]
+pub struct Wire {
+    pub ends: (usize, usize),
+    pub serves: bool,
+    pub parts: Parts,
+}
+
+// The parts of the library's weight.
+pub fn parts_of<W: Weight>(weight: W) -> Parts
+    ensures { result ≡ parts_of W.Weight weight }
+{
+    (weight.part(0), weight.part(1))
+}
+
+// The library's link as plain values.
+pub fn wire_of<W: Weight>(link: Link<W>) -> Wire
+    ensures { result ≡ wire_of W.Weight link }
+{
+    Wire {
+        ends: (link.first as usize, link.second as usize),
+        serves: link.in_service,
+        parts: parts_of(link.weight),
+    }
+}
+
+// Whether units bear these codes, in order.
+pub fn bear_codes(units: &[Unit], codes: &[Vec<u8>]) -> bool
+    ensures { IsTrue result ↔ (length units.now ≡ length codes.now) × All (λ p. code_of p.0 ≡ p.1.items) (zip units.now codes.now) }
+{
+    units.len() == codes.len()
+        && units
+            .iter()
+            .zip(codes)
+            .all(|(unit, code)| unit.code.text() == code.as_slice())
+}
+
+// Whether links are these wires, in order.
+pub fn are_wires<W: Weight>(links: &[Link<W>], wires: &[Wire]) -> bool
+    ensures { IsTrue result ↔ (length links.now ≡ length wires.now) × All (λ p. wire_of W.Weight p.0 ≡ p.1) (zip links.now wires.now) }
+{
+    links.len() == wires.len()
+        && links
+            .iter()
+            .zip(wires)
+            .all(|(link, wire)| wire_of(*link) == *wire)
+}
