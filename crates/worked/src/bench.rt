@@ -4,13 +4,16 @@ ghost use Rattle.plans.specs.Sound.{Sound};
 ghost use Rattle.weights.specs.contracts.plain.PlainWeight.TheImpl.{ghosts as plainKind};
 
 use crate::example::{CODES, LINKS, SHEET};
+use answers::trial::trial;
+use answers::weakest::weakest;
 use cuts::entry::Entry;
 use cuts::ground::Ground;
-use filings::answer::Answer;
-use filings::filing::Filing;
+use kept_plans::filing::Filing;
 use plans::plan::Link;
 use queues::list::{ListQueue, Slot};
+use queues::queue::PriorityQueue;
 use refusals::Refusal;
+use solvers::answer::Answer;
 use std::process::Abort;
 use std::test::Fail;
 use weights::plain::Plain;
@@ -76,6 +79,19 @@ pub const KEPT: Seen = Seen {
     kept: true,
 };
 
+// Units 0, 1 and 2, each linked by 1 to 3, 4 and 5.
+pub const THREE_BY_THREE: [(usize, usize, u32); 9] = [
+    (0, 3, 1),
+    (0, 4, 1),
+    (0, 5, 1),
+    (1, 3, 1),
+    (1, 4, 1),
+    (1, 5, 1),
+    (2, 3, 1),
+    (2, 4, 1),
+    (2, 5, 1),
+];
+
 // One edit.
 #[derive(Clone, Copy)]
 pub enum Edit {
@@ -87,7 +103,7 @@ pub enum Edit {
     Mark(usize, u8),
 }
 
-// One step of a test.
+// One step of a test. Steps are data, not calls, so that a test is one table and each kind of call is proved once.
 #[derive(Clone, Copy)]
 pub enum Step {
     // the plan of four units is read and worked out
@@ -115,12 +131,9 @@ pub fn entry(low: u8, high: u8, ground: Ground, scan: u8) -> Entry {
     }
 }
 
-// The number of a refusal, or 0 where there is none.
-pub fn number<T: Drop>(outcome: Result<T, Refusal>) -> u8 {
-    match outcome {
-        Ok(_) => 0,
-        Err(why) => why.number(),
-    }
+// The number of a refusal, where there is one.
+pub fn refused<T: Drop>(outcome: Result<T, Refusal>) -> Option<u8> {
+    outcome.err().map(|why| why.number())
 }
 
 pub fn plain(conductors: u32) -> Result<Plain, Refusal> {
@@ -134,6 +147,7 @@ pub fn enter_units(filing: &mut Filing<Plain>, count: u8) -> Result<(), Refusal>
     ensures { Sound plainKind filing.new.plan }
 {
     for k in 0..count {
+        // two digits by hand, so that nothing but a refusal can go wrong
         filing.enter(&[b'U', b'1', b'0', b'0', b'0' + k / 10, b'0' + k % 10])?;
     }
     Ok(())
@@ -182,55 +196,57 @@ fn gathered(answer: Answer<Plain>, marks: [u8; 6], record: [Entry; 6]) -> Seen {
     }
 }
 
-// The weakest division, by the list queue.
-pub fn weakest(filing: &mut Filing<Plain>) -> Result<Seen, Refusal>
-    requires { Sound plainKind filing.old.plan }
+// The weakest division by a queue, or that with one link out.
+pub fn asked<Q: PriorityQueue<Weight = Plain>>(
+    filing: &mut Filing<Plain>,
+    queue: &mut Q,
+    without: Option<usize>,
+) -> Result<Seen, Refusal>
+    requires filing { Sound plainKind filing.old.plan }
+    requires queue { Q.PriorityQueue.sound queue.old }
     ensures { Sound plainKind filing.new.plan }
 {
-    let mut slots = [Slot::<Plain>::empty(); 64];
-    let mut queue = ListQueue::over(&mut slots);
     let mut marks = [UNTOUCHED; 6];
     let mut record = [BLANK; 6];
     let mut table = [Plain::nothing(); 36];
-    let answer = filing.weakest(&mut queue, &mut marks, &mut record, &mut table)?;
-    Ok(gathered(answer, marks, record))
+    match without {
+        None => {
+            let answer = weakest(filing, queue, &mut marks, &mut record, &mut table)?;
+            Ok(gathered(answer, marks, record))
+        }
+        Some(link) => {
+            let answer = trial(filing, link, queue, &mut marks, &mut record, &mut table)?;
+            Ok(gathered(answer, marks, record))
+        }
+    }
 }
 
-// The weakest division with one link out, by the list queue.
-pub fn trial(filing: &mut Filing<Plain>, link: usize) -> Result<Seen, Refusal>
+// The weakest division, or that with one link out, by the list queue.
+pub fn by_list(filing: &mut Filing<Plain>, without: Option<usize>) -> Result<Seen, Refusal>
     requires { Sound plainKind filing.old.plan }
     ensures { Sound plainKind filing.new.plan }
 {
     let mut slots = [Slot::<Plain>::empty(); 64];
     let mut queue = ListQueue::over(&mut slots);
-    let mut marks = [UNTOUCHED; 6];
-    let mut record = [BLANK; 6];
-    let mut table = [Plain::nothing(); 36];
-    let answer = filing.trial(link, &mut queue, &mut marks, &mut record, &mut table)?;
-    Ok(gathered(answer, marks, record))
+    asked(filing, &mut queue, without)
 }
 
 // Whether the plan is the one of four units.
-pub fn is_example(filing: &Filing<Plain>) -> Result<bool, Refusal>
+fn is_example(filing: &Filing<Plain>) -> bool
     requires { Sound plainKind filing.now.plan }
 {
     let plan = filing.plan();
-    let units = plan.units();
-    if units.len() != 4 || plan.link_count() != 4 {
-        return Ok(false);
-    }
-    for k in 0..4 {
-        let link = plan.link_at(k)?;
-        let joint = (
-            link.first as usize,
-            link.second as usize,
-            link.weight.amount(),
-        );
-        if units[k].code.text() != CODES[k].as_slice() || joint != LINKS[k] || !link.in_service {
-            return Ok(false);
-        }
-    }
-    Ok(true)
+    let codes = plan
+        .units()
+        .iter()
+        .zip(&CODES)
+        .all(|(unit, code)| unit.code.text() == code.as_slice());
+    let links = plan.links().iter().zip(&LINKS).all(|(link, joint)| {
+        let ends = (link.first as usize, link.second as usize);
+        link.in_service && (ends.0, ends.1, link.weight.amount()) == *joint
+    });
+    let counts = plan.unit_count() == CODES.len() && plan.link_count() == LINKS.len();
+    counts && codes && links
 }
 
 // The answer about a plan with these links between so many units.
@@ -241,7 +257,7 @@ pub fn worked_out(units: u8, links: &[(usize, usize, u32)]) -> Result<Seen, Refu
     let mut filing = Filing::open(&mut memory);
     enter_units(&mut filing, units)?;
     join(&mut filing, links)?;
-    weakest(&mut filing)
+    by_list(&mut filing, None)
 }
 
 // Reads the plan of four units and works it out.
@@ -250,7 +266,7 @@ pub fn begin(rt: &impl Abort, filing: &mut Filing<Plain>) -> Result<(), Fail>
     ensures { Sound plainKind filing.new.plan }
 {
     filing.read(&SHEET)?;
-    assert_eq!(rt; weakest(filing)?, BEGUN);
+    assert_eq!(rt; by_list(filing, None)?, BEGUN);
     Ok(())
 }
 
@@ -259,8 +275,8 @@ pub fn unchanged(rt: &impl Abort, filing: &mut Filing<Plain>) -> Result<(), Fail
     requires { Sound plainKind filing.old.plan }
     ensures { Sound plainKind filing.new.plan }
 {
-    assert!(rt; is_example(filing)?);
-    assert_eq!(rt; weakest(filing)?, KEPT);
+    assert!(rt; is_example(filing));
+    assert_eq!(rt; by_list(filing, None)?, KEPT);
     Ok(())
 }
 
@@ -269,7 +285,7 @@ fn answers(rt: &impl Abort, filing: &mut Filing<Plain>, kept: bool, figure: u32)
     requires { Sound plainKind filing.old.plan }
     ensures { Sound plainKind filing.new.plan }
 {
-    let seen = weakest(filing)?;
+    let seen = by_list(filing, None)?;
     assert_eq!(rt; (seen.kept, seen.figure), (kept, figure));
     Ok(())
 }
@@ -278,10 +294,10 @@ fn answers(rt: &impl Abort, filing: &mut Filing<Plain>, kept: bool, figure: u32)
 fn weighed(filing: &Filing<Plain>, marks: &[u8]) -> Result<u32, u8>
     requires { Sound plainKind filing.now.plan }
 {
-    match filing.weigh(marks) {
-        Ok(weight) => Ok(weight.amount()),
-        Err(why) => Err(why.number()),
-    }
+    filing
+        .weigh(marks)
+        .map(|weight| weight.amount())
+        .map_err(|why| why.number())
 }
 
 // The figure with one link out, or the number of the refusal.
@@ -289,10 +305,9 @@ fn tried(filing: &mut Filing<Plain>, link: usize) -> Result<u32, u8>
     requires { Sound plainKind filing.old.plan }
     ensures { Sound plainKind filing.new.plan }
 {
-    match trial(filing, link) {
-        Ok(seen) => Ok(seen.figure),
-        Err(why) => Err(why.number()),
-    }
+    by_list(filing, Some(link))
+        .map(|seen| seen.figure)
+        .map_err(|why| why.number())
 }
 
 fn take(rt: &impl Abort, filing: &mut Filing<Plain>, step: Step) -> Result<(), Fail>
@@ -302,11 +317,11 @@ fn take(rt: &impl Abort, filing: &mut Filing<Plain>, step: Step) -> Result<(), F
     match step {
         Step::Begin => begin(rt, filing),
         Step::Make(edit) => {
-            assert_eq!(rt; number(make(filing, edit)), 0);
+            assert_eq!(rt; refused(make(filing, edit)), None);
             Ok(())
         },
         Step::Refuse(edit, why) => {
-            assert_eq!(rt; number(make(filing, edit)), why);
+            assert_eq!(rt; refused(make(filing, edit)), Some(why));
             Ok(())
         },
         Step::Weigh(marks, outcome) => {

@@ -1,6 +1,6 @@
 // What each edit refuses, in the order of its checks. A refused edit changes nothing.
 use crate::bench::*;
-use filings::filing::Filing;
+use kept_plans::filing::Filing;
 use plans::plan::Link;
 use std::test::Fail;
 use weights::plain::Plain;
@@ -27,8 +27,8 @@ fn enter_and_recode(rt: HostRuntime) -> Result<(), Fail> {
 fn codes_of_other_lengths(rt: HostRuntime) -> Result<(), Fail> {
     let mut memory = [Link::<Plain>::blank(); 512];
     let mut filing = Filing::open(&mut memory);
-    assert_eq!(rt; number(filing.enter(b"U1000")), 7);
-    assert_eq!(rt; number(filing.enter(b"U1000123")), 7);
+    assert_eq!(rt; refused(filing.enter(b"U1000")), Some(7));
+    assert_eq!(rt; refused(filing.enter(b"U1000123")), Some(7));
     filing.enter(b"U10001A")?;
     assert_eq!(rt; filing.enter(b"U10001B")?, 1);
     Ok(())

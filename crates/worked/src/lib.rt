@@ -2,9 +2,9 @@
 #![tactic(auto)]
 
 #[cfg(test)]
-mod answers;
-#[cfg(test)]
 mod bench;
+#[cfg(test)]
+mod divisions;
 #[cfg(test)]
 mod edits;
 pub mod example;
@@ -12,5 +12,7 @@ pub mod example;
 mod keeping;
 #[cfg(test)]
 mod reading;
+#[cfg(test)]
+mod ties;
 #[cfg(test)]
 mod trials;

@@ -1,7 +1,7 @@
 // Damaged sheets: each is refused at its first fault, and the plan stays as it was, with its kept marks.
 use crate::bench::*;
 use crate::example::SHEET;
-use filings::filing::Filing;
+use kept_plans::filing::Filing;
 use plans::plan::Link;
 use refusals::Refusal;
 use sheets::fault::{Fault, Part};
@@ -35,8 +35,8 @@ fn changed(at: usize, byte: u8, refusal: Refusal, place: usize, part: Part) -> D
 fn damaged(at: usize, byte: u8) -> [u8; 61] {
     let mut bytes = SHEET;
     bytes[14] = b'9';
-    if at < 61 {
-        bytes[at] = byte;
+    if let Some(old) = bytes.get_mut(at) {
+        *old = byte;
     }
     bytes
 }
@@ -48,11 +48,8 @@ fn refuses(rt: &impl Abort, damages: &[Damage]) -> Result<(), Fail> {
     begin(rt, &mut filing)?;
     for damage in damages {
         let bytes = damaged(damage.at, damage.byte);
-        let len = damage.len.min(61);
-        match filing.read(&bytes[0..len]) {
-            Ok(()) => return Err(Fail::new("no fault")),
-            Err(fault) => assert_eq!(rt; fault, damage.fault),
-        }
+        let len = damage.len.min(SHEET.len());
+        assert_eq!(rt; filing.read(&bytes[0..len]).err(), Some(damage.fault));
         unchanged(rt, &mut filing)?;
     }
     Ok(())

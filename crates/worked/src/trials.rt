@@ -1,7 +1,7 @@
 // Trials: the figure with one link out of service.
 use crate::bench::*;
 use cuts::ground::Ground;
-use filings::filing::Filing;
+use kept_plans::filing::Filing;
 use plans::plan::Link;
 use std::test::Fail;
 use weights::plain::Plain;
@@ -28,7 +28,7 @@ fn beside_kept_marks(rt: HostRuntime) -> Result<(), Fail> {
         scans: 0,
         kept: false,
     };
-    assert_eq!(rt; trial(&mut filing, 2)?, expected);
+    assert_eq!(rt; by_list(&mut filing, Some(2))?, expected);
     unchanged(&rt, &mut filing)
 }
 

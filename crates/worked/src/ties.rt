@@ -7,20 +7,6 @@ use plans::plan::Link;
 use refusals::Refusal;
 use std::test::Fail;
 use weights::plain::Plain;
-use weights::weight::Weight;
-
-// Units 0, 1 and 2, each linked by 1 to 3, 4 and 5.
-const THREE_BY_THREE: [(usize, usize, u32); 9] = [
-    (0, 3, 1),
-    (0, 4, 1),
-    (0, 5, 1),
-    (1, 3, 1),
-    (1, 4, 1),
-    (1, 5, 1),
-    (2, 3, 1),
-    (2, 4, 1),
-    (2, 5, 1),
-];
 
 // The answer by a queue with the given choice.
 fn by_choice(tie: Tie) -> Result<Seen, Refusal> {
@@ -29,17 +15,7 @@ fn by_choice(tie: Tie) -> Result<Seen, Refusal> {
     enter_units(&mut filing, 6)?;
     join(&mut filing, &THREE_BY_THREE)?;
     let mut queue = TiedQueue::<Plain>::new(tie);
-    let mut marks = [UNTOUCHED; 6];
-    let mut record = [BLANK; 6];
-    let mut table = [Plain::nothing(); 36];
-    let answer = answers::weakest::weakest(
-        &mut filing,
-        &mut queue,
-        &mut marks,
-        &mut record,
-        &mut table,
-    )?;
-    Ok(gathered(answer, marks, record))
+    asked(&mut filing, &mut queue, None)
 }
 
 // Every degree is 3, and no pair meets a test. The last group that is taken has key 3, and the one taken before it is its

@@ -1,6 +1,0 @@
-use Rattle.kept_plans.specs.Filed.{Filed}
-use Rattle.weights.specs.contracts.plain.PlainWeight.TheImpl.{ghosts as plainKind}
-use Rattle.worked_answers.proofs.bench.enter_units.Given as goal
-
-abbrev pub invariant-loop-k : goal.invariant-loop-k
-invariant-loop-k l = Filed plainKind l.filing
