@@ -14,10 +14,9 @@ fn agrees(rt: &HostRuntime, name: &str) -> anyhow::Result<bool> {
 
 fn main(rt: HostRuntime) -> anyhow::Result<()> {
     let cases = fs::read_to_string(&rt, "cases.txt")?;
-    let mut sheets = 0u64;
+    let sheets = cases.lines().count();
     let mut deviations = 0u64;
     for name in cases.lines() {
-        sheets = sheets.saturating_add(1);
         if !agrees(&rt, name)? {
             deviations = deviations.saturating_add(1);
             println!(rt; "{name} deviates")?;

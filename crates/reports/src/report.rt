@@ -1,6 +1,4 @@
 // From the bytes of a sheet to the lines that the program prints.
-ghost use Rattle.std.specs.Prelude.{◌≡◌, ℕ, ◌<◌, ◌≤◌, length, IfOk, vec_len};
-
 use answers::weakest::weakest;
 use cuts::entry::Entry;
 use cuts::ground::Ground;
@@ -9,7 +7,6 @@ use plans::plan::{LINKS, Link, UNITS, Unit};
 use queues::list::{ListQueue, Slot};
 use queues::queue::GROUPS;
 use refusals::Refusal;
-use solvers::answer::Answer;
 use std::alloc::{AllocError, Global};
 use std::fmt::Write;
 use weights::plain::Plain;
@@ -24,62 +21,45 @@ const BLANK: Entry = Entry {
     scan: 0,
 };
 
-// Memory to lend: so many copies of an item.
-fn filled<T: Copy>(heap: Global, item: T, count: usize) -> Result<Vec<T>, AllocError>
-    ensures { IfOk result (λ v. vec_len v ≡ count) }
-{
-    let mut items = Vec::new(heap);
-    for i in 0..count {
-        items.push(item)?;
+// The lines of an answer: one for each part of the figure, one for each marked code, and one for each entry of the record,
+// with the two groups, the ground and the scan.
+fn shown<W: Weight>(
+    heap: Global,
+    figure: W,
+    units: &[Unit],
+    marks: &[u8],
+    record: &[Entry],
+) -> Result<String, AllocError> {
+    let mut text = String::new(heap);
+    for part in 0..W::part_count() {
+        writeln!(text, "{}", figure.part(part))?;
     }
-    Ok(items)
-}
-
-// One line for each part of a figure.
-fn show_figure<W: Weight>(figure: W, text: &mut String) -> anyhow::Result<()> {
-    for i in 0..W::part_count() {
-        let part = figure.part(i);
-        writeln!(text, "{part}")?;
-    }
-    Ok(())
-}
-
-// One line for each marked code.
-fn show_codes(units: &[Unit], marks: &[u8], text: &mut String) -> anyhow::Result<()> {
     for (unit, mark) in units.iter().zip(marks) {
         if *mark == 1 {
-            let code = unit.code;
-            writeln!(text, "{code}")?;
+            writeln!(text, "{}", unit.code)?;
         }
     }
-    Ok(())
+    for entry in record {
+        writeln!(text, "{entry}")?;
+    }
+    Ok(text)
 }
 
-// One line for each entry of a record: the two groups, the ground and the scan.
-fn show_record(entries: &[Entry], text: &mut String) -> anyhow::Result<()> {
-    for entry in entries {
-        let low = entry.low;
-        let high = entry.high;
-        let ground = entry.ground.number();
-        let scan = entry.scan;
-        writeln!(text, "{low} {high} {ground} {scan}")?;
-    }
-    Ok(())
+// The line of a refusal: its number.
+fn refused(heap: Global, why: Refusal) -> Result<String, AllocError> {
+    format!(in heap; "{}\n", why.number())
 }
 
 // The lines of a sheet for one weight kind: figure, marked codes and record, or only a refusal's number.
-fn report_as<W: Weight>(heap: Global, bytes: &[u8]) -> anyhow::Result<String> {
-    let mut links = filled(heap, Link::<W>::blank(), LINKS)?;
-    let mut slots = filled(heap, Slot::<W>::empty(), GROUPS)?;
-    let mut table = filled(heap, W::nothing(), UNITS * UNITS)?;
-    let mut entries = filled(heap, BLANK, UNITS)?;
-    let mut marks = filled(heap, 0, UNITS)?;
+fn report_as<W: Weight>(heap: Global, bytes: &[u8]) -> Result<String, AllocError> {
+    let mut links = vec![in heap; Link::<W>::blank(); LINKS]?;
+    let mut slots = vec![in heap; Slot::<W>::empty(); GROUPS]?;
+    let mut table = vec![in heap; W::nothing(); UNITS * UNITS]?;
+    let mut entries = vec![in heap; BLANK; UNITS]?;
+    let mut marks = vec![in heap; 0u8; UNITS]?;
     let mut filing = Filing::open(links.as_mut_slice());
-    let mut text = String::new(heap);
     if let Err(fault) = filing.read(bytes) {
-        let number = fault.refusal.number();
-        writeln!(text, "{number}")?;
-        return Ok(text);
+        return refused(heap, fault.refusal);
     }
     let mut queue = ListQueue::over(slots.as_mut_slice());
     match weakest(
@@ -89,21 +69,19 @@ fn report_as<W: Weight>(heap: Global, bytes: &[u8]) -> anyhow::Result<String> {
         entries.as_mut_slice(),
         table.as_mut_slice(),
     ) {
-        Err(refusal) => {
-            let number = refusal.number();
-            writeln!(text, "{number}")?;
-        }
-        Ok(answer) => {
-            show_figure(answer.figure, &mut text)?;
-            show_codes(filing.plan().units(), marks.as_slice(), &mut text)?;
-            show_record(&entries.as_slice()[0..answer.mergers], &mut text)?;
-        }
+        Err(why) => refused(heap, why),
+        Ok(answer) => shown(
+            heap,
+            answer.figure,
+            filing.plan().units(),
+            marks.as_slice(),
+            &entries.as_slice()[0..answer.mergers],
+        ),
     }
-    Ok(text)
 }
 
 // The lines that the program prints of a sheet: ranked weights if its kind byte is 2, else plain ones.
-pub fn report(heap: Global, bytes: &[u8]) -> anyhow::Result<String> {
+pub fn report(heap: Global, bytes: &[u8]) -> Result<String, AllocError> {
     match bytes.get(5) {
         Some(2) => report_as::<Ranked>(heap, bytes),
         _ => report_as::<Plain>(heap, bytes),
