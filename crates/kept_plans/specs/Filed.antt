@@ -19,8 +19,8 @@ pub record Marks {W : Type 0} (g : Ghosts W) (m : Model W) (sides : List ℕ) : 
 abbrev pub Current : {W : Type 0} → Ghosts W → Filing W → Type 0
 Current g f = f.kept.kept ≡ true → Marks g (model_of f.plan) f.kept.sides
 
--- open gives it, and every call asks for it and gives it back: the plan is sound, there is a side for each unit, and kept marks
--- are those of a weakest division of the plan as it is
+-- open gives it, and every call keeps it: the plan is sound, there is a side for each unit, and kept marks are those of a weakest
+-- division of the plan as it is
 pub record Filed {W : Type 0} (g : Ghosts W) (f : Filing W) : Type 0 where
   pub plan : Sound g f.plan
   pub sides : length f.kept.sides ≡ 64

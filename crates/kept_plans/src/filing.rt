@@ -50,6 +50,7 @@ impl<'a, W: Weight> Filing<'a, W> {
     // A filing with no units, no links and no kept marks; `Plan::check` tells whether the memory suffices.
     pub fn open(links: &'a mut [Link<W>]) -> Filing<'a, W>
         requires { most_links ≤ length links.old }
+        ensures sound { Sound W.Weight result.plan }
         ensures filed { Filed W.Weight result }
         ensures model { model_of result.plan ≡ record { codes = []; links = [] } }
         ensures memory { result.plan.links.now ≡ links.old }
