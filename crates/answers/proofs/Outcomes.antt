@@ -10,8 +10,8 @@ use Rattle.cuts.specs.Outcomes.{Outcome}
 use Rattle.cuts.proofs.Outcomes.{outcome_promised}
 use Rattle.plans.specs.Model.{Model}
 use Rattle.plans.specs.Divided.{links_of}
-use Rattle.kept_plans.specs.Filed.{Marks}
-use Rattle.kept_plans.proofs.Staying.{Fairly}
+use Rattle.filings.specs.Filed.{Marks}
+use Rattle.filings.proofs.Staying.{Fairly}
 
 pub outcome_marks : {W : Type 0} (g : Ghosts W) → Laws g.zero g.plus g.le g.size → (m : Model W) → Fairly g m → 2 ≤ length m.codes → (figure : g.Value) (marks : List ℕ) (entries : List Entry) (scans : ℕ) → Outcome (kind_of g) (length m.codes) (links_of g m) figure marks entries scans → Marks g m marks
 outcome_marks g laws m fair two figure marks entries scans o =

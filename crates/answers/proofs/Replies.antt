@@ -13,9 +13,9 @@ use Rattle.plans.specs.Calls.{accepted}
 use Rattle.plans.specs.Divided.{links_of, side_of, weighed}
 use Rattle.plans.specs.Model.{Model}
 use Rattle.plans.proofs.Verdicts.{fails, passes}
-use Rattle.kept_plans.specs.Filed.{Marks}
-use Rattle.kept_plans.proofs.Keeping.{marks_below}
-use Rattle.kept_plans.proofs.Staying.{Fairly}
+use Rattle.filings.specs.Filed.{Marks}
+use Rattle.filings.proofs.Keeping.{marks_below}
+use Rattle.filings.proofs.Staying.{Fairly}
 use Rattle.answers.specs.Answered.{enough, Least, trial_verdict, weakest_verdict}
 
 module _ {W : Type 0} (m : Model W) (n : ℕ) (units : n ≡ length m.codes) (marks entries weights : ℕ) where

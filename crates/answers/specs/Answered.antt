@@ -10,7 +10,7 @@ use Rattle.plans.specs.Calls.{accepted, check}
 use Rattle.plans.specs.Divided.{links_of, side_of}
 use Rattle.plans.specs.Marks.{Untouched}
 use Rattle.plans.specs.Model.{Model, marked, model_of}
-use Rattle.kept_plans.specs.declared.filing.Filing.{Filing}
+use Rattle.filings.specs.declared.filing.Filing.{Filing}
 use Rattle.solvers.specs.declared.answer.Answer.{Answer}
 use Rattle.solvers.specs.Answers.{LeftBehind, WorkedOut}
 

@@ -2,16 +2,16 @@
 ghost use Rattle.std.specs.Prelude.{◌≡◌, ℕ, ◌<◌, ◌≤◌, false, length, IfOk, MatchResult, OnErr};
 ghost use Rattle.answers.specs.Answered.{Judged, Least, memory, trial_verdict, Tried, Unchanged};
 ghost use Rattle.contractions.specs.Progress.{Room};
-ghost use Rattle.kept_plans.specs.Filed.{Filed};
+ghost use Rattle.filings.specs.Filed.{Filed};
 ghost use Rattle.plans.specs.Model.{marked, model_of};
 ghost use Rattle.plans.specs.Sound.{Sound};
 ghost use Rattle.solvers.specs.Answers.{QueueLeft};
 
 use crate::room::check_room;
 use cuts::entry::Entry;
+use filings::filing::Filing;
 use fills::fill::copy_marks;
 use fills::guard::fill_without;
-use kept_plans::filing::Filing;
 use queues::queue::PriorityQueue;
 use refusals::Refusal;
 use solvers::answer::Answer;

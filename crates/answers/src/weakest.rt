@@ -3,7 +3,7 @@ ghost use Rattle.std.specs.Prelude.{◌≡◌, ℕ, ◌≤◌, true, false, leng
 ghost use Rattle.answers.specs.Answered.{FromKept, Judged, Least, memory, Unchanged, weakest_verdict, WorkedKept};
 ghost use Rattle.cuts.specs.Divisions.{weight_of};
 ghost use Rattle.cuts.specs.Kinds.{kind_of};
-ghost use Rattle.kept_plans.specs.Filed.{Current, Filed};
+ghost use Rattle.filings.specs.Filed.{Current, Filed};
 ghost use Rattle.plans.specs.Divided.{links_of, side_of};
 ghost use Rattle.plans.specs.Model.{model_of};
 ghost use Rattle.plans.specs.Sound.{Sound};
@@ -11,7 +11,7 @@ ghost use Rattle.solvers.specs.Answers.{QueueLeft};
 
 use crate::room::check_room;
 use cuts::entry::Entry;
-use kept_plans::filing::Filing;
+use filings::filing::Filing;
 use queues::queue::PriorityQueue;
 use refusals::Refusal;
 use solvers::answer::Answer;

@@ -7,7 +7,7 @@ use answers::trial::trial;
 use answers::weakest::weakest;
 use cuts::entry::Entry;
 use cuts::ground::Ground;
-use kept_plans::filing::Filing;
+use filings::filing::Filing;
 use queues::list::{ListQueue, Slot};
 use queues::queue::GROUPS;
 use refusals::Refusal;

@@ -3,7 +3,7 @@ ghost use Rattle.plans.specs.Sound.{Sound};
 
 use crate::calls::Call;
 use crate::model::{Model, Reply, Seen, Trouble, amount};
-use kept_plans::filing::Filing;
+use filings::filing::Filing;
 use samples::wire::{Parts, are_wires, bear_codes};
 use std::alloc::Global;
 use weights::weight::Weight;

@@ -9,7 +9,7 @@ use crate::compare::{expect, is_same};
 use crate::draws::{Draws, Form, Kind};
 use crate::model::{Model, Trouble};
 use anyhow::ensure;
-use kept_plans::filing::Filing;
+use filings::filing::Filing;
 use plans::plan::{LINKS, Link};
 use samples::dice::Dice;
 use std::alloc::Global;

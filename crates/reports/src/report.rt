@@ -2,7 +2,7 @@
 use answers::weakest::weakest;
 use cuts::entry::Entry;
 use cuts::ground::Ground;
-use kept_plans::filing::Filing;
+use filings::filing::Filing;
 use plans::plan::{LINKS, Link, UNITS, Unit};
 use queues::list::{ListQueue, Slot};
 use queues::queue::GROUPS;

@@ -17,10 +17,10 @@ use Rattle.plans.specs.Model.{Model}
 use Rattle.plans.specs.Divided.{links_of, side_of}
 use Rattle.runs.specs.Steps.{State, Answer, Worked, Remembered}
 use Rattle.runs.specs.Promise.{RightAnswer, AlikePlans}
-use Rattle.kept_plans.specs.Filed.{Marks}
-use Rattle.kept_plans.proofs.Keeping.{marks_alike}
+use Rattle.filings.specs.Filed.{Marks}
+use Rattle.filings.proofs.Keeping.{marks_alike}
 use Rattle.answers.proofs.Outcomes.{outcome_marks}
-use Rattle.kept_plans.proofs.Staying.{Fairly}
+use Rattle.filings.proofs.Staying.{Fairly}
 
 module _ {W : Type 0} (g : Ghosts W) (laws : Laws g.zero g.plus g.le g.size) where
   -- at the start every unit is a group, and every division keeps the groups whole

@@ -11,8 +11,8 @@ use Rattle.plans.specs.Model.{Model, amount_of, total_of, changed, entered, reco
 use Rattle.plans.specs.Sound.{Joins}
 use Rattle.plans.proofs.Totals.{total_append}
 use Rattle.runs.specs.Steps.{opened}
-use Rattle.kept_plans.proofs.Parting.{Parted, parted}
-use Rattle.kept_plans.proofs.Staying.{Fairly, fair_links}
+use Rattle.filings.proofs.Parting.{Parted, parted}
+use Rattle.filings.proofs.Staying.{Fairly, fair_links}
 
 -- what holds of the parts of a list
 all_front : {X : Type 0} (P : X → Type 0) (xs ys : List X) → AllByRecursion P (xs ++ ys) → AllByRecursion P xs

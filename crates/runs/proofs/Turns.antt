@@ -20,9 +20,9 @@ use Rattle.runs.specs.declared.call.Call.{Call}
 use Rattle.runs.specs.declared.call.Call.TheVariants as call
 use Rattle.runs.specs.declared.reply.Reply.{Reply}
 use Rattle.runs.specs.declared.reply.Reply.TheVariants as reply
-use Rattle.kept_plans.specs.Filed.{Marks}
-use Rattle.kept_plans.proofs.Keeping.{marks_alike}
-use Rattle.kept_plans.proofs.Staying.{Fairly, recoded_stays, linked_stays, struck_stays, marked_stays, reweighed_stays}
+use Rattle.filings.specs.Filed.{Marks}
+use Rattle.filings.proofs.Keeping.{marks_alike}
+use Rattle.filings.proofs.Staying.{Fairly, recoded_stays, linked_stays, struck_stays, marked_stays, reweighed_stays}
 use Rattle.runs.proofs.Limits.{Within, fair_within, opened_within, entered_within, recoded_within, linked_within, struck_within, marked_within, reweighed_within, two_units, strike_there, mark_there, reweigh_there}
 use Rattle.runs.proofs.Leading.{led, led_one}
 use Rattle.runs.proofs.Answering.{worked_marks, worked_right, remembered_right, same_figure}

@@ -14,7 +14,7 @@ use Rattle.sheets.specs.declared.issue.Issue.{Issue}
 use Rattle.sheets.specs.Faults.{Right, FirstFault}
 use Rattle.sheets.specs.Format.{sheet_of, Valid}
 use Rattle.writers.specs.Written.{sheet_in, write_verdict}
-use Rattle.kept_plans.specs.Edits.{stays, entering, recoding, linking, striking, reweighing, marking}
+use Rattle.filings.specs.Edits.{stays, entering, recoding, linking, striking, reweighing, marking}
 use Rattle.answers.specs.Answered.{weakest_verdict, trial_verdict}
 use Rattle.runs.specs.declared.call.Call.{Call}
 use Rattle.runs.specs.declared.call.Call.TheVariants as call

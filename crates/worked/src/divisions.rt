@@ -6,7 +6,7 @@ use crate::bench::*;
 use crate::example::{LINKS, RANKED_SHEET};
 use answers::weakest::weakest;
 use cuts::ground::Ground;
-use kept_plans::filing::Filing;
+use filings::filing::Filing;
 use plans::plan::Link;
 use queues::list::{ListQueue, Slot};
 use refusals::Refusal;

@@ -1,6 +1,6 @@
 // What each edit refuses, in the order of its checks. A refused edit changes nothing.
 use crate::bench::*;
-use kept_plans::filing::Filing;
+use filings::filing::Filing;
 use plans::plan::Link;
 use std::test::Fail;
 use weights::plain::Plain;

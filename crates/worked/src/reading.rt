@@ -1,7 +1,7 @@
 // Damaged sheets: each is refused at its first fault, and the plan stays as it was, with its kept marks.
 use crate::bench::*;
 use crate::example::SHEET;
-use kept_plans::filing::Filing;
+use filings::filing::Filing;
 use plans::plan::Link;
 use refusals::Refusal;
 use sheets::fault::{Fault, Part};

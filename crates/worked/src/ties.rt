@@ -2,7 +2,7 @@
 use crate::bench::*;
 use cuts::ground::Ground;
 use drains::tied::{Tie, TiedQueue};
-use kept_plans::filing::Filing;
+use filings::filing::Filing;
 use plans::plan::Link;
 use refusals::Refusal;
 use std::test::Fail;

@@ -1,7 +1,7 @@
 // Trials: the figure with one link out of service.
 use crate::bench::*;
 use cuts::ground::Ground;
-use kept_plans::filing::Filing;
+use filings::filing::Filing;
 use plans::plan::Link;
 use std::test::Fail;
 use weights::plain::Plain;

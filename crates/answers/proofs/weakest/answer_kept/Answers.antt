@@ -1,7 +1,7 @@
 use Rattle.std.proofs.Common.{◌≡◌, ◌-◌, length, take, drop, refl, ap, ◌∙◌, subst}
 use Rattle.plans.specs.Divided.{weighed}
 use Rattle.plans.specs.Model.{model_of}
-use Rattle.kept_plans.proofs.Staying.{fair_plan}
+use Rattle.filings.proofs.Staying.{fair_plan}
 use Rattle.answers.proofs.Replies.{part_weighed}
 use Rattle.answers.proofs.weakest.answer_kept.Goals as goal
 

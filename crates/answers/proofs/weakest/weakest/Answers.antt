@@ -2,7 +2,7 @@ use Rattle.std.proofs.Common.{◌≡◌, ◌≤◌, false, true, length, take, s
 use Rattle.plans.specs.Model.{model_of}
 use Rattle.solvers.specs.Answers.{LeftBehind, WorkedOut}
 use Rattle.plans.proofs.Linking.{unit_size}
-use Rattle.kept_plans.proofs.Staying.{fair_plan}
+use Rattle.filings.proofs.Staying.{fair_plan}
 use Rattle.answers.proofs.Outcomes.{outcome_marks}
 use Rattle.answers.proofs.Replies.{kept_least, promised_least, weakest_accepted}
 use Rattle.answers.proofs.weakest.weakest.Goals as goal

@@ -3,11 +3,11 @@ use Rattle.std.specs.Prelude.{ℕ, zero, suc, ◌<◌, Bool, true, false, cond, 
 use Rattle.weights.specs.declared.weight.Weight.{Ghosts}
 use Rattle.plans.specs.declared.plan.Link.{Link as Joint}
 use Rattle.plans.specs.Model.{Model}
-use Rattle.kept_plans.specs.declared.kept.Change.{Change}
-use Rattle.kept_plans.specs.declared.kept.Change.TheVariants.{Equal, Heavier, Lighter}
-use Rattle.kept_plans.specs.declared.kept.Ends.{Ends}
-use Rattle.kept_plans.specs.declared.kept.Edit.{Edit}
-use Rattle.kept_plans.specs.declared.kept.Edit.TheVariants.{Enter, Read, Recode, Link, Out, In, Reweigh}
+use Rattle.filings.specs.declared.kept.Change.{Change}
+use Rattle.filings.specs.declared.kept.Change.TheVariants.{Equal, Heavier, Lighter}
+use Rattle.filings.specs.declared.kept.Ends.{Ends}
+use Rattle.filings.specs.declared.kept.Edit.{Edit}
+use Rattle.filings.specs.declared.kept.Edit.TheVariants.{Enter, Read, Recode, Link, Out, In, Reweigh}
 
 -- both ends of the edit's link are units that a plan can have
 abbrev pub Within : Edit → Type 0

@@ -20,10 +20,10 @@ use Rattle.plans.specs.Model.{Model, model_of, total_of, changed, linked, struck
 use Rattle.plans.specs.Divided.{valued, links_of, side_of}
 use Rattle.plans.specs.Sound.{Joins, Sound}
 use Rattle.plans.proofs.Linking.{unit_size, link_size_lem}
-use Rattle.kept_plans.specs.declared.kept.Change.TheVariants.{Equal, Heavier, Lighter}
-use Rattle.kept_plans.specs.Edits.{is_one_side, suits, outlives, strike_of, reweigh_of, mark_of, stays, striking, reweighing, marking}
-use Rattle.kept_plans.specs.Filed.{Marks}
-use Rattle.kept_plans.proofs.Parting.{Parted, parted}
+use Rattle.filings.specs.declared.kept.Change.TheVariants.{Equal, Heavier, Lighter}
+use Rattle.filings.specs.Edits.{is_one_side, suits, outlives, strike_of, reweigh_of, mark_of, stays, striking, reweighing, marking}
+use Rattle.filings.specs.Filed.{Marks}
+use Rattle.filings.proofs.Parting.{Parted, parted}
 
 -- one side or different sides, by the bytes and by the marks
 same_side : (x y : ℕ) → eqb x y ≡ true → eqb x 1 ≡ eqb y 1

@@ -1,9 +1,9 @@
 use Rattle.plans.specs.Model.{model_of, recoded}
-use Rattle.kept_plans.specs.Edits.{outlives}
-use Rattle.kept_plans.specs.declared.kept.Edit.TheVariants.{Recode}
-use Rattle.kept_plans.proofs.Staying.{recoded_stays}
-use Rattle.kept_plans.proofs.Settling.{now_next, stays_filed}
-use Rattle.kept_plans.proofs.filing.Filing.recode.Goals as goal
+use Rattle.filings.specs.Edits.{outlives}
+use Rattle.filings.specs.declared.kept.Edit.TheVariants.{Recode}
+use Rattle.filings.proofs.Staying.{recoded_stays}
+use Rattle.filings.proofs.Settling.{now_next, stays_filed}
+use Rattle.filings.proofs.filing.Filing.recode.Goals as goal
 
 pub returns-clause-filed : goal.returns-clause-filed
 returns-clause-filed g c =

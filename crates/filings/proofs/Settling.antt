@@ -12,12 +12,12 @@ use Rattle.plans.specs.Model.{Model, model_of}
 use Rattle.plans.specs.Sound.{Sound}
 use Rattle.plans.proofs.Linking.{link_size_lem}
 use Rattle.plans.proofs.Verdicts.{fails, passes}
-use Rattle.kept_plans.specs.declared.filing.Filing.{Filing}
-use Rattle.kept_plans.specs.declared.kept.Edit.{Edit}
-use Rattle.kept_plans.specs.Edits.{outlives, outlive_at}
-use Rattle.kept_plans.specs.Filed.{Filed, Marks}
-use Rattle.kept_plans.proofs.Parting.{outlive_at_lem}
-use Rattle.kept_plans.proofs.Staying.{Fairly, fair_plan}
+use Rattle.filings.specs.declared.filing.Filing.{Filing}
+use Rattle.filings.specs.declared.kept.Edit.{Edit}
+use Rattle.filings.specs.Edits.{outlives, outlive_at}
+use Rattle.filings.specs.Filed.{Filed, Marks}
+use Rattle.filings.proofs.Parting.{outlive_at_lem}
+use Rattle.filings.proofs.Staying.{Fairly, fair_plan}
 
 module _ {W X : Type 0} {verdict : Option Refusal} {x y : X} {next : Model W} {p q : Plan W} where
   -- an accepted call was not to be refused

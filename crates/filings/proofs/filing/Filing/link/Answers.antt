@@ -1,10 +1,10 @@
 use Rattle.std.proofs.Common.{true}
 use Rattle.plans.specs.declared.plan.Link.{Link}
 use Rattle.plans.specs.Model.{model_of, linked}
-use Rattle.kept_plans.specs.Edits.{is_one_side}
-use Rattle.kept_plans.proofs.Staying.{linked_stays}
-use Rattle.kept_plans.proofs.Settling.{now_next, stays_filed}
-use Rattle.kept_plans.proofs.filing.Filing.link.Goals as goal
+use Rattle.filings.specs.Edits.{is_one_side}
+use Rattle.filings.proofs.Staying.{linked_stays}
+use Rattle.filings.proofs.Settling.{now_next, stays_filed}
+use Rattle.filings.proofs.filing.Filing.link.Goals as goal
 
 pub returns-clause-filed : goal.returns-clause-filed
 returns-clause-filed g c =

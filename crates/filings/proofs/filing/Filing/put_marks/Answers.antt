@@ -1,7 +1,7 @@
 use Rattle.std.proofs.Common.{sym, subst}
-use Rattle.kept_plans.specs.Filed.{Marks}
-use Rattle.kept_plans.proofs.Keeping.{untouched_model}
-use Rattle.kept_plans.proofs.filing.Filing.put_marks.Goals as goal
+use Rattle.filings.specs.Filed.{Marks}
+use Rattle.filings.proofs.Keeping.{untouched_model}
+use Rattle.filings.proofs.filing.Filing.put_marks.Goals as goal
 
 pub returns-clause-filed : goal.returns-clause-filed
 returns-clause-filed g c filed =

@@ -8,9 +8,9 @@ ghost use Rattle.plans.specs.Sound.{Sound};
 ghost use Rattle.sheets.specs.Faults.{FirstFault};
 ghost use Rattle.sheets.specs.Fields.{issue_in};
 ghost use Rattle.sheets.specs.Format.{sheet_of, Valid};
-ghost use Rattle.kept_plans.specs.Edits.{change_of, entering, linking, marking, recoding, reweighing, stays, striking};
-ghost use Rattle.kept_plans.specs.declared.kept.Edit.TheVariants.{In, Out};
-ghost use Rattle.kept_plans.specs.Filed.{Filed, Marks, Settled};
+ghost use Rattle.filings.specs.Edits.{change_of, entering, linking, marking, recoding, reweighing, stays, striking};
+ghost use Rattle.filings.specs.declared.kept.Edit.TheVariants.{In, Out};
+ghost use Rattle.filings.specs.Filed.{Filed, Marks, Settled};
 
 use crate::kept::{Change, Edit, Ends, Kept};
 use plans::plan::{Link, Plan};

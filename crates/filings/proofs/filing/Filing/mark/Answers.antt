@@ -1,10 +1,10 @@
 use Rattle.std.proofs.Common.{cond, ◌&&◌, eqb, ap, ◌∙◌}
 use Rattle.plans.specs.Model.{model_of, marked}
-use Rattle.kept_plans.specs.Edits.{mark_of, marking, outlives, stays}
-use Rattle.kept_plans.proofs.Staying.{marked_stays}
-use Rattle.kept_plans.proofs.Settling.{in_model, now_next, outlives_it, stays_filed, mark_below, was_accepted}
-use Rattle.kept_plans.specs.declared.kept.Edit.TheVariants.{Out, In}
-use Rattle.kept_plans.proofs.filing.Filing.mark.Goals as goal
+use Rattle.filings.specs.Edits.{mark_of, marking, outlives, stays}
+use Rattle.filings.proofs.Staying.{marked_stays}
+use Rattle.filings.proofs.Settling.{in_model, now_next, outlives_it, stays_filed, mark_below, was_accepted}
+use Rattle.filings.specs.declared.kept.Edit.TheVariants.{Out, In}
+use Rattle.filings.proofs.filing.Filing.mark.Goals as goal
 
 pub returns : goal.returns
 returns g c =

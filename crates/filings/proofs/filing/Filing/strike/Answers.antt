@@ -1,10 +1,10 @@
 use Rattle.std.proofs.Common.{◌&&◌, ap, ◌∙◌}
 use Rattle.plans.specs.Model.{model_of, struck}
-use Rattle.kept_plans.specs.Edits.{outlives, strike_of, stays, striking}
-use Rattle.kept_plans.specs.declared.kept.Edit.TheVariants.{Out}
-use Rattle.kept_plans.proofs.Staying.{struck_stays}
-use Rattle.kept_plans.proofs.Settling.{in_model, now_next, outlives_it, stays_filed}
-use Rattle.kept_plans.proofs.filing.Filing.strike.Goals as goal
+use Rattle.filings.specs.Edits.{outlives, strike_of, stays, striking}
+use Rattle.filings.specs.declared.kept.Edit.TheVariants.{Out}
+use Rattle.filings.proofs.Staying.{struck_stays}
+use Rattle.filings.proofs.Settling.{in_model, now_next, outlives_it, stays_filed}
+use Rattle.filings.proofs.filing.Filing.strike.Goals as goal
 
 pub returns : goal.returns
 returns g c =

@@ -1,9 +1,9 @@
 use Rattle.std.proofs.Common.{sym}
 use Rattle.plans.specs.Model.{model_of}
 use Rattle.plans.proofs.Linking.{unit_size}
-use Rattle.kept_plans.proofs.Keeping.{marks_below}
-use Rattle.kept_plans.proofs.Staying.{fair_plan}
-use Rattle.kept_plans.proofs.filing.Filing.keep.Goals as goal
+use Rattle.filings.proofs.Keeping.{marks_below}
+use Rattle.filings.proofs.Staying.{fair_plan}
+use Rattle.filings.proofs.filing.Filing.keep.Goals as goal
 
 pub returns-clause-filed : goal.returns-clause-filed
 returns-clause-filed g c =

@@ -1,10 +1,10 @@
 use Rattle.std.proofs.Common.{◌&&◌, ap, ◌∙◌}
 use Rattle.plans.specs.Model.{model_of, reweighed}
-use Rattle.kept_plans.specs.Edits.{ends_of, outlives, reweighing, stays, reweigh_of}
-use Rattle.kept_plans.specs.declared.kept.Edit.TheVariants.{Reweigh}
-use Rattle.kept_plans.proofs.Staying.{reweighed_stays}
-use Rattle.kept_plans.proofs.Settling.{in_model, now_next, outlives_it, stays_filed}
-use Rattle.kept_plans.proofs.filing.Filing.reweigh.Goals as goal
+use Rattle.filings.specs.Edits.{ends_of, outlives, reweighing, stays, reweigh_of}
+use Rattle.filings.specs.declared.kept.Edit.TheVariants.{Reweigh}
+use Rattle.filings.proofs.Staying.{reweighed_stays}
+use Rattle.filings.proofs.Settling.{in_model, now_next, outlives_it, stays_filed}
+use Rattle.filings.proofs.filing.Filing.reweigh.Goals as goal
 
 pub returns : goal.returns
 returns g c =

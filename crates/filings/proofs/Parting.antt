@@ -3,8 +3,8 @@ use Rattle.std.proofs.Common.{◌≡◌, ℕ, zero, suc, ◌<◌, List, [], ◌�
 use Rattle.std.specs.List.{remove}
 use Rattle.plans.specs.declared.plan.Link.{Link}
 use Rattle.plans.specs.Model.{changed}
-use Rattle.kept_plans.specs.declared.kept.Edit.{Edit}
-use Rattle.kept_plans.specs.Edits.{outlives, outlive_at}
+use Rattle.filings.specs.declared.kept.Edit.{Edit}
+use Rattle.filings.specs.Edits.{outlives, outlive_at}
 
 pub record Parted {W : Type 0} (ls : List (Link W)) (k : ℕ) : Type 0 where
   pub front : List (Link W)

@@ -6,7 +6,7 @@ use Rattle.cuts.specs.Divisions.{Weakest}
 use Rattle.plans.specs.Model.{Model, model_of}
 use Rattle.plans.specs.Divided.{links_of, side_of}
 use Rattle.plans.specs.Sound.{Sound}
-use Rattle.kept_plans.specs.declared.filing.Filing.{Filing}
+use Rattle.filings.specs.declared.filing.Filing.{Filing}
 
 -- the sides are those of a weakest division of the plan: one byte, 0 or 1, for each of at least two units, and 0 for unit 0
 pub record Marks {W : Type 0} (g : Ghosts W) (m : Model W) (sides : List ℕ) : Type 0 where

@@ -9,8 +9,8 @@ use Rattle.plans.specs.declared.plan.Plan.{Plan}
 use Rattle.plans.specs.Marks.{Untouched}
 use Rattle.plans.specs.Model.{Model, model_of}
 use Rattle.plans.specs.Divided.{links_of, side_of}
-use Rattle.kept_plans.specs.Filed.{Marks}
-use Rattle.kept_plans.proofs.Staying.{Fairly}
+use Rattle.filings.specs.Filed.{Marks}
+use Rattle.filings.proofs.Staying.{Fairly}
 
 -- only the marks of the plan's units count
 module _ {W : Type 0} (g : Ghosts W) (laws : Laws g.zero g.plus g.le g.size) (m : Model W) (fair : Fairly g m) (xs ys : List ℕ) where

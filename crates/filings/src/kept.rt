@@ -1,6 +1,6 @@
 // The marks that a plan keeps of its last weakest division, and what becomes of them by an edit.
 ghost use Rattle.std.specs.Prelude.{◌≡◌, ℕ, ◌<◌, ◌≤◌, true, false, ◌&&◌, length, take, drop};
-ghost use Rattle.kept_plans.specs.Edits.{ends_of, is_one_side, outlives, Within};
+ghost use Rattle.filings.specs.Edits.{ends_of, is_one_side, outlives, Within};
 
 use plans::plan::Link;
 
