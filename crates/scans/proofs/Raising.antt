@@ -1,5 +1,5 @@
 -- What holds in the turn of a group that was taken, as the groups that wait are raised one after another.
-use Rattle.std.proofs.Common.{◌≡◌, ℕ, ◌+◌, ◌<◌, ◌≤◌, Bool, true, false, List, [], ◌∷◌, ◌++◌, get_or, Some, None, Ok, Err, Option, Result, sym, refl, ap, ◌∙◌, subst, ⊎_elim, ap₂, subst₂, append-nil, arith}
+use Rattle.std.proofs.Common.{◌≡◌, ℕ, ◌+◌, ◌<◌, ◌≤◌, Bool, true, false, List, [], ◌∷◌, ◌++◌, get_or, Some, None, Ok, Err, Option, Result, sym, refl, ap, ◌∙◌, subst, ⊎_elim, ap₂, subst₂, arith}
 use Rattle.std.proofs.lemmas.Bool.{cond-true, both_ways}
 use Rattle.weights.specs.declared.weight.Weight.{Ghosts}
 use Rattle.weights.specs.Laws.{limit}
@@ -9,13 +9,12 @@ use Rattle.cuts.specs.Links.{Link}
 use Rattle.cuts.specs.Groups.{joint}
 use Rattle.cuts.specs.Scans.{has, key, raised, finds}
 use Rattle.cuts.proofs.Facts.{key_more}
-use Rattle.cuts.proofs.Names.{stands_less}
 use Rattle.refusals.specs.declared.Refusal.{Refusal}
 use Rattle.queues.specs.Keys.{Raised}
 use Rattle.tables.specs.Meaning.{at}
 use Rattle.scans.specs.declared.found.Found.{Found}
 use Rattle.scans.specs.Scanned.{Notes}
-use Rattle.scans.specs.Waits.{Above, Waits, comes_to, rest, Keyed, Turn}
+use Rattle.scans.specs.Waits.{Above, Waits, comes_to, rest, Turn}
 use Rattle.scans.proofs.Waiting.{waits_here, waits_some, waits_change, waits_same}
 use Rattle.scans.proofs.Turns.{rest_stands, rest_apart, mixed, mixed_old, mixed_new, mixed_apart, mixed_same, finds_not, finds_one, gone_not, light_not, short_not, reached_is, raise_fits, unraised}
 
@@ -25,12 +24,6 @@ pub record Raising {W : Type 0} (m : Ghosts W) (n : ℕ) (ls : List (Link m.Valu
   pub notes : (before : List (ℕ × ℕ)) → Notes n before first → Notes n (before ++ finds (kind_of m) n ls es bound v taken w) f
 
 module _ {W : Type 0} {m : Ghosts W} {n : ℕ} {ls : List (Link m.Value)} {es : List Entry} {taken : List ℕ} {v : ℕ} {table : List W} {start : ℕ → Option W} {marks : List Bool} (laws : Lawful (kind_of m)) (turn : Turn m n ls es taken v table start marks) where
-  pub raise_none : (bound : m.Value) (first : Found) → Raising m n ls es taken v bound first start first 0
-  raise_none bound first = record {
-    waits = waits_same turn.waits (λ x. refl) (λ x _. sym (mixed_old (kind_of m) n ls es v taken 0 x (omega arith)));
-    notes = λ before h. rw (append-nil before) h;
-  }
-
   module _ {bound : m.Value} {first f : Found} {keys : ℕ → Option W} {w : ℕ} (below : w < n) (raising : Raising m n ls es taken v bound first keys f w) where
     -- w stays as it is, and no pair is found with it
     still : (rest n es (v ∷ taken) w ≡ true → key (kind_of m) n ls es (v ∷ taken) w ≡ key (kind_of m) n ls es taken w) → raised (kind_of m) n ls es bound v taken w ≡ false → Raising m n ls es taken v bound first keys f (w + 1)
@@ -110,9 +103,5 @@ module _ {W : Type 0} {m : Ghosts W} {n : ℕ} {ls : List (Link m.Value)} {es : 
 
   -- every group is raised
   module _ {bound : m.Value} {first f : Found} {keys : ℕ → Option W} {w : ℕ} (end : w ≡ n) (raising : Raising m n ls es taken v bound first keys f w) where
-    pub raise_every : Keyed m n ls es (v ∷ taken) keys
-    raise_every = waits_same raising.waits (λ x. refl)
-        (λ x o. let l = stands_less n es x (rest_stands n es (v ∷ taken) x o).0 in mixed_new (kind_of m) n ls es v taken w x (omega arith))
-
     pub notes_every : (before : List (ℕ × ℕ)) → Notes n before first → Notes n (before ++ finds (kind_of m) n ls es bound v taken n) f
     notes_every before h = subst (λ k. Notes n (before ++ finds (kind_of m) n ls es bound v taken k) f) end (raising.notes before h)

@@ -1,12 +1,12 @@
 -- How who waits, and the marks of it, follow what a queue's calls do.
-use Rattle.std.proofs.Common.{◌≡◌, ℕ, zero, suc, ◌<◌, Bool, true, false, cond, eqb, List, length, get_or, set, replicate, Some, None, Ok, Err, Option, Result, sym, refl, ap, ◌∙◌, ap₂, ⊎_elim, arith}
+use Rattle.std.proofs.Common.{◌≡◌, ℕ, zero, suc, ◌<◌, Bool, true, false, cond, eqb, List, length, get_or, set, replicate, Some, None, Ok, Err, Option, Result, sym, refl, ap, ◌∙◌, ap₂, ⊎_elim}
 use Rattle.std.proofs.lemmas.List.{get_or-set_other, get_or-set_same}
 use Rattle.std.proofs.lemmas.Map.{update_here, update_apart}
 use Rattle.std.proofs.lemmas.Bool.{cases_eq, cases_Bool, cond-true, cond-false}
 use Rattle.std.specs.Map.{update}
 use Rattle.refusals.specs.declared.Refusal.{Refusal}
 use Rattle.weights.specs.declared.weight.Weight.{Ghosts}
-use Rattle.queues.specs.Keys.{Becomes, Empty, Raised}
+use Rattle.queues.specs.Keys.{Becomes, Raised}
 use Rattle.scans.specs.Waits.{worth, Waits, Marks, AllMarked}
 
 module _ {W V : Type 0} {value : W → V} {keys : ℕ → Option W} {p : ℕ → Bool} {m : ℕ → V} (waits : Waits value keys p m) where
@@ -15,7 +15,7 @@ module _ {W V : Type 0} {value : W → V} {keys : ℕ → Option W} {p : ℕ →
   waits_here x t = go (keys x) (waits.each x ∙ cond-true (p x) (Some (m x)) None t)
     where
       go : (o : Option W) → worth value o ≡ Some (m x) → (k : W) × (o ≡ Some k) × (value k ≡ m x)
-      go None e = let z : ◌≡◌ {A = ℕ} 0 1 = cc in absurd (omega arith)
+      go None e = cc
       go (Some k) e = (k, refl, cc)
 
   -- what has a key is of p
@@ -24,14 +24,7 @@ module _ {W V : Type 0} {value : W → V} {keys : ℕ → Option W} {p : ℕ →
       let is : Some (value k) ≡ cond (p x) (Some (m x)) None = sym (ap (worth value) e) ∙ waits.each x in
       ⊎_elim
       (λ (t : p x ≡ true). let h = is ∙ cond-true (p x) (Some (m x)) None t in (t, cc))
-      (λ (f : p x ≡ false). let h = is ∙ cond-false (p x) (Some (m x)) None f in let z : ◌≡◌ {A = ℕ} 0 1 = cc in absurd (omega arith))
-      (cases_Bool (p x))
-
-  pub waits_empty : Empty keys → (x : ℕ) → p x ≡ false
-  waits_empty empty x =
-      ⊎_elim
-      (λ (t : p x ≡ true). let r = waits_here x t in let e = empty x in let f = r.1 in let z : ◌≡◌ {A = ℕ} 0 1 = cc in absurd (omega arith))
-      (λ (f : p x ≡ false). f)
+      (λ (f : p x ≡ false). let h = is ∙ cond-false (p x) (Some (m x)) None f in cc)
       (cases_Bool (p x))
 
   module _ {p' : ℕ → Bool} {m' : ℕ → V} where
@@ -77,29 +70,16 @@ unmarked n = record { each = none n }
     none (suc n) zero = refl
     none (suc n) (suc x) = none n x
 
--- nobody waits
-pub marked_none : {W : Type 0} (n : ℕ) {keys : ℕ → Option W} (marks : List Bool) → Empty keys → AllMarked n keys marks
-marked_none n marks empty = record { each = λ x k e. let none = empty x in let z : ◌≡◌ {A = ℕ} 0 1 = cc in absurd (omega arith) }
-
 module _ {W : Type 0} {n : ℕ} {keys after : ℕ → Option W} {marks : List Bool} (all : AllMarked n keys marks) (g : ℕ) where
   -- all but g wait as before
   others : (o : Option W) → Becomes keys after g o → (x : ℕ) (k : W) → after x ≡ Some k → (x ≡ g → ⊥) → (x < n) × (get_or marks x false ≡ true)
   others o becomes x k e ne = all.each x k (sym (becomes x ∙ update_apart keys g o x ne) ∙ e)
 
-  -- g waits now, and is marked
-  pub marked_put : (k : W) → g < n → g < length marks → Becomes keys after g (Some k) → AllMarked n after (set marks g true)
-  marked_put k l room becomes = record {
-    each = λ x j e. ⊎_elim
-        (λ (is : x ≡ g). rw is (l, get_or-set_same marks g true false room))
-        (λ (ne : x ≡ g → ⊥). let was = others (Some k) becomes x j e ne in (was.0, get_or-set_other marks g x true false ne ∙ was.1))
-        (cases_eq x g);
-  }
-
   -- g waits no more
   pub marked_taken : Becomes keys after g None → AllMarked n after (set marks g false)
   marked_taken becomes = record {
     each = λ x j e. ⊎_elim
-        (λ (is : x ≡ g). let gone = becomes x ∙ ap (λ y. update eqb keys g None y) is ∙ update_here keys g None in let z : ◌≡◌ {A = ℕ} 0 1 = cc in absurd (omega arith))
+        (λ (is : x ≡ g). let gone = becomes x ∙ ap (λ y. update eqb keys g None y) is ∙ update_here keys g None in cc)
         (λ (ne : x ≡ g → ⊥). let was = others None becomes x j e ne in (was.0, get_or-set_other marks g x false false ne ∙ was.1))
         (cases_eq x g);
   }

@@ -1,10 +1,11 @@
 // A scan: the groups are taken one by one, heaviest key first, each raising those that still wait.
-ghost use Rattle.std.specs.Prelude.{◌≡◌, ℕ, ◌+◌, ◌*◌, ◌<◌, ◌≤◌, false, List, ◌∷◌, ◌++◌, length, Some, None, Result};
+// The loops count, since the number of a group is what queue, table and found pairs are given.
+ghost use Rattle.std.specs.Prelude.{◌≡◌, ℕ, ◌+◌, ◌*◌, ◌<◌, ◌≤◌, false, List, ◌∷◌, ◌++◌, length, Result};
 ghost use Rattle.cuts.specs.declared.entry.Entry.{Entry};
 ghost use Rattle.cuts.specs.Kinds.{kind_of};
 ghost use Rattle.cuts.specs.Links.{Link};
 ghost use Rattle.cuts.specs.Scans.{finds};
-ghost use Rattle.queues.specs.Keys.{Becomes, Empty, Raised};
+ghost use Rattle.queues.specs.Keys.{Empty, Raised};
 ghost use Rattle.refusals.specs.declared.Refusal.{Refusal};
 ghost use Rattle.scans.specs.Scanned.{Notes, pairs_of, Scanned};
 ghost use Rattle.scans.specs.Waits.{Above, AllMarked, comes_to, Keyed, Marks, present, Turn, Waits};
@@ -15,20 +16,6 @@ use queues::queue::PriorityQueue;
 use tables::groups::Groups;
 use tables::table::entry;
 use weights::weight::Weight;
-
-// Puts a group that does not wait yet.
-fn put_new<W: Weight, Q: PriorityQueue<Weight = W>>(queue: &mut Q, group: usize, weight: W)
-    requires sound { Q.PriorityQueue.sound queue.old }
-    requires within { group < 64 }
-    requires new { Q.PriorityQueue.key queue.old group ≡ None }
-    ensures sound { Q.PriorityQueue.sound queue.new }
-    ensures put { Becomes (Q.PriorityQueue.key queue.old) (Q.PriorityQueue.key queue.new) group (Some weight) }
-{
-    match queue.put(group, weight) {
-        Ok(()) => (),
-        Err(_) => unreachable(),
-    }
-}
 
 // Puts every group that stands, with nothing for its key, and marks it.
 fn put_all<W: Weight, Q: PriorityQueue<Weight = W>>(
@@ -47,11 +34,10 @@ fn put_all<W: Weight, Q: PriorityQueue<Weight = W>>(
     ensures marks { Marks waiting.old (λ _. false) → Marks waiting.new (present n groups.now) }
 {
     for g in 0..n {
-        if !groups.stands(g) {
-            continue;
+        if groups.stands(g) {
+            queue.put(g, W::nothing()).unwrap();
+            waiting[g] = true;
         }
-        put_new(queue, g, W::nothing());
-        waiting[g] = true;
     }
 }
 
@@ -65,9 +51,10 @@ fn some_joint<W: Weight>(table: &[W], n: usize, v: usize, w: usize) -> Option<W>
 {
     let joint = entry(table, n, v, w);
     if joint.at_most(W::nothing()) {
-        return None;
+        None
+    } else {
+        Some(joint)
     }
-    Some(joint)
 }
 
 // Raises a group, and tells whether its new key comes to best. Where it does not wait, or the sum is refused, nothing changes.
@@ -81,10 +68,7 @@ fn raised_to<W: Weight, Q: PriorityQueue<Weight = W>>(
     ensures sound { Q.PriorityQueue.sound queue.new }
     ensures raised { (answer : Result W Refusal) × Raised W.Weight.value W.Weight.plus W.Weight.size (Q.PriorityQueue.key queue.old) (Q.PriorityQueue.key queue.new) group by answer × (result ≡ comes_to W.Weight (W.Weight.value best) answer) }
 {
-    match queue.raise(group, by) {
-        Ok(key) => best.at_most(key),
-        Err(_) => false,
-    }
+    queue.raise(group, by).is_ok_and(|key| best.at_most(key))
 }
 
 // Raises each group that waits by its joint weight with v, lowest first, and notes the pairs whose key comes to best.

@@ -1,16 +1,8 @@
-use Rattle.std.proofs.Common.{◌≡◌, sym, ap, ◌∙◌, arith}
+use Rattle.std.proofs.Common.{sym, ap, ◌∙◌, arith}
 use Rattle.scans.proofs.Waiting.{marked_raised}
-use Rattle.scans.proofs.Raising.{raise_none, raise_gone, raise_light, raise_short, raise_found, raise_every, notes_every}
+use Rattle.scans.proofs.Raising.{raise_gone, raise_light, raise_short, raise_found, notes_every}
 use Rattle.scans.proofs.scan.raise_all.Goals as goal
 use Rattle.scans.proofs.scan.raise_all.Goals.{then-raised_to, else-raised_to}
-
-pub loop-w-init : goal.loop-w-init
-loop-w-init g c = record {
-  sound = c.requires.sound;
-  units = c.requires.units;
-  marked = c.requires.marked;
-  raising = λ ls es taken turn. raise_none g.met.W.Weight.laws turn _ _;
-}
 
 pub loop-w-preserved-then-not-waiting-w : goal.loop-w-preserved-then-not-waiting-w
 loop-w-preserved-then-not-waiting-w g c = record {
@@ -47,14 +39,5 @@ loop-w-preserved g c =
           ];
     }
 
-pub returns : goal.returns
-returns g c =
-    let end : c.loop-w.w ≡ c.args.n = omega arith in
-    let was = c.loop-w.invariant in
-    record {
-      sound = was.sound;
-      units = was.units;
-      marked = was.marked;
-      keyed = λ ls es taken turn. raise_every g.met.W.Weight.laws turn end (was.raising ls es taken turn);
-      notes = λ ls es taken turn. notes_every g.met.W.Weight.laws turn end (was.raising ls es taken turn);
-    }
+pub returns-clause-notes : goal.returns-clause-notes
+returns-clause-notes g c ls es taken turn = notes_every g.met.W.Weight.laws turn (omega arith) (c.loop-w.invariant.raising ls es taken turn)
