@@ -49,9 +49,6 @@ module _ {W : Type 0} (g : Ghosts W) (m : Model W) (l : Link W) where
   pub mark_fine : mark_verdict (linked served m) (length m.links) 0 ≡ accepted
   mark_fine = passes NoSuchLink _ (lt-ltb (length m.links) (length (m.links ++ (served ∷ []))) (let s = length_push m.links served in omega arith)) ∙ passes BadMark accepted refl
 
-  pub in_service : l.in_service ≡ true → linked served m ≡ linked l m
-  in_service e = ap (λ b. linked (record { first = l.first; second = l.second; in_service = b; weight = l.weight }) m) (sym e)
-
   pub out_of_service : l.in_service ≡ false → marked (length m.links) false (linked served m) ≡ linked l m
   out_of_service e =
       ap (λ ls. record { codes = m.codes; links = ls }) (last m.links)

@@ -1,17 +1,13 @@
 -- Fields put one after the other.
 use Rattle.std.proofs.Common.{◌≡◌, ℕ, ◌+◌, ◌-◌, ◌<◌, ◌≤◌, List, [], ◌∷◌, ◌++◌, length, take, drop, set, sym, refl, ap, ◌∙◌, subst, arith}
 use borrow.Rule.Slice.PartMut.{put_mid}
-use Rattle.std.proofs.lemmas.List.{append-nil, append_assoc, length-append, take_more_set, drop-set-lt, drop-drop}
+use Rattle.std.proofs.lemmas.List.{append_assoc, length-append, take_more_set, drop-set-lt, drop-drop}
 use Rattle.std.proofs.lemmas.Slice.{take-put_mid, drop-put_mid}
 use Rattle.writers.specs.Fields.{Put, Room}
 
 -- the same bytes by another name
 pub put_same : {xs ys f q : List ℕ} {at n : ℕ} → f ≡ q → Put xs at f n ys → Put xs at q n ys
 put_same {xs} {ys} {f} {q} {at} {n} e p = subst (λ t. Put xs at t n ys) e p
-
--- no byte put
-pub put_none : (xs : List ℕ) (at : ℕ) → Put xs at [] at xs
-put_none xs at = record { follows = omega arith; front = sym (append-nil (take at xs)); rest = refl }
 
 pub put_one : (xs : List ℕ) (at b : ℕ) → at < length xs → Put xs at (b ∷ []) (at + 1) (set xs at b)
 put_one xs at b h = record {

@@ -1,5 +1,5 @@
 -- A sound plan whose codes fit the issue is within the rules of a sheet, and how long its sheet is.
-use Rattle.std.proofs.Common.{◌≡◌, ℕ, ◌+◌, ◌*◌, ◌<◌, ◌≤◌, true, false, ◌||◌, eqb, List, [], ◌∷◌, map, length, get_or, take, sym, refl, ap, ◌∙◌, subst, ⊎_elim, suc-mul, arith}
+use Rattle.std.proofs.Common.{◌≡◌, ℕ, ◌+◌, ◌*◌, ◌<◌, ◌≤◌, true, false, ◌||◌, eqb, List, [], ◌∷◌, map, length, take, sym, refl, ap, ◌∙◌, subst, ⊎_elim, suc-mul, arith}
 use Rattle.std.specs.List.{list_any, AllWithin, flat_map, AllByRecursion}
 use Rattle.std.proofs.ByRecursion.{all_from_every}
 use Rattle.std.proofs.lemmas.List.{length-append, length_push, get_or-take}
