@@ -24,18 +24,14 @@ work_out-requires g c =
     let w = g.W.Weight in
     let n = c.unit_count-n.result in
     let links = c.links-links.result.now in
-    let marks = set c.copy_marks.new.marks c.args.link 0 in
     let is = c.plan-plan.ensures in
     let units = c.unit_count-n.ensures.units ∙ ap (λ p. length (model_of p).codes) is in
     let value = c.links-links.ensures.value ∙ ap (λ p. (model_of p).links) is in
-    let s = c.requires.plan in
     let joins = subst (λ k. AllWithin (Joins w k) links 0 (length links)) (sym c.unit_count-n.ensures.value) c.links-links.ensures.joins in
-    let total : total_of w links ≤ 1000000 = let e = ap (total_of w) value in let a = s.counted in let b = s.limited in omega arith in
     record {
       queue = c.requires.queue;
       some = joined_two w n links c.args.link (let e = ap length value in let h = c.requires.link in omega arith) joins;
       room = room_for w n _ units c.args.table.now c.fill_without.new.table c.args.marks.now c.args.entries.now c.fill_without.auto.table c.requires.room;
-      holds = (served w marks links, served_sound w marks n links joins total, c.fill_without.ensures.holds);
     }
 
 pub returns : goal.returns
@@ -60,7 +56,7 @@ returns g c =
       sound = e.sound;
       tried = record {
         answer = worked w g.met.W.Weight.laws (marked c.args.link false m) n units (served w marks links) out light (joined_two w n links c.args.link (let e = ap length value in let h = c.requires.link in omega arith) joins) c.work_out.result c.work_out.new.marks c.work_out.new.entries
-            e.new e.mergers (let a = c.requires.room.entries in let k = c.work_out.auto.entries in omega arith) (e.outcome (served w marks links) light c.fill_without.ensures.holds);
+            e.new e.mergers (let a = c.requires.room.entries in let k = c.work_out.auto.entries in omega arith) (e.outcome (served w marks links) light (c.fill_without.ensures.holds total));
         behind = left_behind w n _ _ units c.args.table.now c.fill_without.new.table c.work_out.new.table c.args.marks.now c.work_out.new.marks c.args.entries.now c.work_out.new.entries c.fill_without.ensures.rest e.memory;
         plan = c.put_marks.ensures.same;
         kept = c.put_marks.ensures.kept;
