@@ -19,8 +19,9 @@ pub fn copy_marks<W: Weight>(links: &[Link<W>], marks: &mut [u8])
     ensures shows { Shows marks.new links.now }
     ensures rest { drop (length links.now) marks.new ≡ drop (length links.now) marks.old }
 {
-    for i in 0..links.len() {
-        marks[i] = u8::from(links[i].in_service);
+    // by number, as what a zip lends to be written is not known after the loop
+    for (i, link) in links.iter().enumerate() {
+        marks[i] = u8::from(link.in_service);
     }
 }
 
@@ -30,16 +31,14 @@ pub fn fill<W: Weight>(table: &mut [W], n: usize, links: &[Link<W>], marks: &[u8
     requires size { n * n ≤ length table.old }
     requires marks { length links.now ≤ length marks.now }
     requires ends { AllWithin (Joins W.Weight n) links.now 0 (length links.now) }
-    requires total { total_of W.Weight links.now ≤ most_total }
-    ensures holds { Holds W.Weight n (served W.Weight marks.now links.now) [] table.new }
+    ensures holds { total_of W.Weight links.now ≤ most_total → Holds W.Weight n (served W.Weight marks.now links.now) [] table.new }
     ensures rest { drop (n * n) table.new ≡ drop (n * n) table.old }
 {
-    clear(table, n);
-    for i in 0..links.len() {
-        if marks[i] != 1 {
+    clear(table, n * n);
+    for (link, mark) in links.iter().zip(marks) {
+        if *mark != 1 {
             continue;
         }
-        let link = links[i];
         add_link(
             table,
             n,

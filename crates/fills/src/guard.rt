@@ -39,8 +39,7 @@ impl<'a> MarkGuard<'a> {
         requires size { n * n ≤ length table.old }
         requires marks { length links.now ≤ length self.now.marks.now }
         requires ends { AllWithin (Joins W.Weight n) links.now 0 (length links.now) }
-        requires total { total_of W.Weight links.now ≤ most_total }
-        ensures holds { Holds W.Weight n (served W.Weight self.entry.now.marks.now links.now) [] table.new }
+        ensures holds { total_of W.Weight links.now ≤ most_total → Holds W.Weight n (served W.Weight self.entry.now.marks.now links.now) [] table.new }
         ensures rest { drop (n * n) table.new ≡ drop (n * n) table.old }
     {
         fill(table, n, links, self.marks)
@@ -59,10 +58,9 @@ pub fn fill_without<W: Weight>(
     requires size { n * n ≤ length table.old }
     requires marks { length links.now ≤ length marks.old }
     requires ends { AllWithin (Joins W.Weight n) links.now 0 (length links.now) }
-    requires total { total_of W.Weight links.now ≤ most_total }
     requires index { index < length marks.old }
     ensures same { marks.new ≡ marks.old }
-    ensures holds { Holds W.Weight n (served W.Weight (slice_set marks.old index 0) links.now) [] table.new }
+    ensures holds { total_of W.Weight links.now ≤ most_total → Holds W.Weight n (served W.Weight (slice_set marks.old index 0) links.now) [] table.new }
     ensures rest { drop (n * n) table.new ≡ drop (n * n) table.old }
 {
     let old = marks[index];

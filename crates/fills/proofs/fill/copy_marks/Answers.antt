@@ -17,9 +17,6 @@ loop-i-preserved g c =
     let room : i < length c.loop-i.marks = let h = c.requires in omega arith in (
       below_more (λ k. (d : Link g.row.W.Denot) → get_or (set c.loop-i.marks i mark) k 0 ≡ mark_of (get_or links k d)) i
           (λ k lt d. get_or-set_other c.loop-i.marks i k mark 0 (λ e. omega arith) ∙ c.loop-i.invariant.0 k lt d)
-          (λ d. get_or-set_same c.loop-i.marks i mark 0 room ∙ c.from.ensures ∙ byte_of _ ∙ ap mark_of (get_or_default links i _ d c.loop-i-test.true)),
+          (λ d. get_or-set_same c.loop-i.marks i mark 0 room ∙ c.from.ensures ∙ byte_of _ ∙ ap mark_of (c.index-links-i.is ∙ get_or_default links i _ d c.loop-i-test.true)),
       drop-set-lt (length links) c.loop-i.marks i mark c.loop-i-test.true ∙ c.loop-i.invariant.1,
     )
-
-pub returns : goal.returns
-returns g c = record { shows = λ k d lt. c.loop-i.invariant.0 k (omega arith) d; rest = c.loop-i.invariant.1 }

@@ -6,5 +6,5 @@ use Rattle.fills.proofs.guard.fill_without.Goals as goal
 back : (xs : List ℕ) (i y : ℕ) → set (set xs i y) i (get_or xs i 0) ≡ xs
 back xs i y = set-set xs i y (get_or xs i 0) ∙ set-get_or xs i 0
 
-pub returns : goal.returns
-returns g c = record { same = c.drop-guard.ensures ∙ back c.args.marks.now c.args.index 0; holds = c.fill.ensures.holds; rest = c.fill.ensures.rest }
+pub returns-clause-same : goal.returns-clause-same
+returns-clause-same g c = c.drop-guard.ensures ∙ back c.args.marks.now c.args.index _
