@@ -1,6 +1,6 @@
 -- The pairs that a scan found, merged one after another.
 use Rattle.std.proofs.Common.{◌≡◌, ℕ, ◌+◌, ◌<◌, ◌≤◌, min, max, Bool, true, false, cond, ◌||◌, eqb, List, [], ◌∷◌, ◌++◌, length, get_or, take, drop, sym, refl, ap, ◌∙◌, subst, ⊎_elim, arith}
-use Rattle.std.proofs.lemmas.List.{take_more, take-append-drop, length-take-le, get_or-take}
+use Rattle.std.proofs.lemmas.List.{take_more, take-append-drop}
 use Rattle.std.proofs.lemmas.Bool.{cases_lt, eq-eqb, ne_eqb, or_right, or_from}
 use Rattle.weights.specs.declared.weight.Weight.{Ghosts}
 use Rattle.cuts.specs.declared.entry.Entry.{Entry}
@@ -76,9 +76,9 @@ looked g n ls found i p = merge_found (kind_of g) n ls (take i (pairs_of found))
 
 -- a and b are the groups of the found pair at i
 pub record PairGroups (n : ℕ) (found : Found) (i : ℕ) (groups : Groups) (a b : ℕ) : Type 0 where
-  pub within : i < found.count
+  pub within : i < length (pairs_of found)
   pub pair : ℕ × ℕ
-  pub pair_is : pair ≡ get_or found.pairs i (0, 0)
+  pub pair_is : pair ≡ get_or (pairs_of found) i (0, 0)
   pub one : pair.0 < n
   pub other : pair.1 < n
   pub a_is : a ≡ get_or groups.names pair.0 0
@@ -88,12 +88,6 @@ pub record PairGroups (n : ℕ) (found : Found) (i : ℕ) (groups : Groups) (a b
 module _ {W : Type 0} (g : Ghosts W) (n : ℕ) (ls : List (Link g.Value)) (found : Found) (i : ℕ) (p : Point)
     (table : List W) (groups : Groups) (progress : Progress W) (marks : List ℕ) (entries : List Entry)
     (was : At g n ls (looked g n ls found i p) table groups progress marks entries) (a b : ℕ) (are : PairGroups n found i groups a b) where
-  inside : i < length (pairs_of found)
-  inside = let few = found.counted in let room = found.sized in let l = are.within in let all = length-take-le found.count found.pairs (omega arith) in omega arith
-
-  pair_at : are.pair ≡ get_or (pairs_of found) i (0, 0)
-  pair_at = are.pair_is ∙ sym (get_or-take found.count found.pairs i (0, 0) are.within)
-
   group_of : (x c : ℕ) → x < n → c ≡ get_or groups.names x 0 → c ≡ after (looked g n ls found i p).done x
   group_of x c l is = is ∙ was.explains.tracks.names x l
 
@@ -101,14 +95,14 @@ module _ {W : Type 0} (g : Ghosts W) (n : ℕ) (ls : List (Link g.Value)) (found
   stood x c l is = rw (group_of x c l is) (lands n (looked g n ls found i p).done (named n (looked g n ls found i p).done was.explains.joins) x l)
 
   a_at : a ≡ after (looked g n ls found i p).done (get_or (pairs_of found) i (0, 0)).0
-  a_at = group_of are.pair.0 a are.one are.a_is ∙ ap (λ (f : ℕ × ℕ). after (looked g n ls found i p).done f.0) pair_at
+  a_at = group_of are.pair.0 a are.one are.a_is ∙ ap (λ (f : ℕ × ℕ). after (looked g n ls found i p).done f.0) are.pair_is
 
   b_at : b ≡ after (looked g n ls found i p).done (get_or (pairs_of found) i (0, 0)).1
-  b_at = group_of are.pair.1 b are.other are.b_is ∙ ap (λ (f : ℕ × ℕ). after (looked g n ls found i p).done f.1) pair_at
+  b_at = group_of are.pair.1 b are.other are.b_is ∙ ap (λ (f : ℕ × ℕ). after (looked g n ls found i p).done f.1) are.pair_is
 
   -- one group already: the pair is passed over
   pub at_passed : a ≡ b → At g n ls (looked g n ls found (i + 1) p) table groups progress marks entries
-  at_passed same = subst (λ q. At g n ls q table groups progress marks entries) (found_passed (kind_of g) n ls (pairs_of found) i inside p (sym a_at ∙ same ∙ b_at)) was
+  at_passed same = subst (λ q. At g n ls q table groups progress marks entries) (found_passed (kind_of g) n ls (pairs_of found) i are.within p (sym a_at ∙ same ∙ b_at)) was
 
   module _ (apart : a ≡ b → ⊥) (e : Entry) (e-is : e ≡ merger a b Scan progress.scans) where
     pub pair_stands : (e.low < e.high) × (stands n (looked g n ls found i p).done e.low ≡ true) × (stands n (looked g n ls found i p).done e.high ≡ true)
@@ -117,4 +111,4 @@ module _ {W : Type 0} (g : Ghosts W) (n : ℕ) (ls : List (Link g.Value)) (found
     pub pair_merged : ended (kind_of g) n ls (looked g n ls found i p) ≡ false → merge (kind_of g) n ls (looked g n ls found i p) e ≡ looked g n ls found (i + 1) p
     pair_merged on =
         ap (merge (kind_of g) n ls (looked g n ls found i p)) (e-is ∙ same_merger a b _ _ Scan _ _ a_at b_at was.scans)
-        ∙ found_merged (kind_of g) n ls (pairs_of found) i inside p on (λ h. apart (a_at ∙ h ∙ sym b_at))
+        ∙ found_merged (kind_of g) n ls (pairs_of found) i are.within p on (λ h. apart (a_at ∙ h ∙ sym b_at))

@@ -1,4 +1,3 @@
-pub mod Marked
 pub mod Merging
 pub mod Founds
 pub mod Sparing

@@ -16,10 +16,6 @@ use Rattle.tables.specs.Meaning.{at, Tracks, Holds, Explains}
 use Rattle.contractions.specs.declared.progress.Progress.{Progress}
 use Rattle.contractions.specs.Progress.{Marks, At}
 
--- two groups that stand leave room for a merger
-pub merger_room : (n : ℕ) (es : List Entry) (e : Entry) → Joins n [] es → stands n es e.low ≡ true → stands n es e.high ≡ true → e.low < e.high → length es < n
-merger_room n es e joins low high less = let after = (named_more n es e (named n es joins) low high less).fewer in let one = length_more es e in omega arith
-
 module _ {W : Type 0} (g : Ghosts W) (n : ℕ) (ls : List (Link g.Value)) (p : Point) (e : Entry)
     (table table' : List W) (groups groups' : Groups) (progress : Progress W) (marks : List ℕ) (entries : List Entry)
     (was : At g n ls p table groups progress marks entries)

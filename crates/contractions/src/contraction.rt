@@ -1,5 +1,5 @@
 // The work itself: pairs of groups are merged until two are left or best is nothing.
-ghost use Rattle.std.specs.Prelude.{◌≡◌, ℕ, ◌+◌, ◌<◌, ◌≤◌, true, false, not, List, [], length, take, drop, nat_eq, slice_index};
+ghost use Rattle.std.specs.Prelude.{◌≡◌, ℕ, ◌+◌, ◌*◌, ◌<◌, ◌≤◌, true, false, not, List, [], length, take, drop, nat_eq, slice_index};
 ghost use Rattle.cuts.specs.Groups.{stands};
 ghost use Rattle.cuts.specs.Kinds.{kind_of};
 ghost use Rattle.cuts.specs.Links.{Link, Sound};
@@ -25,7 +25,8 @@ use weights::weight::Weight;
 
 // Whether work goes on: more than two groups are left, and best is above nothing.
 fn goes_on<W: Weight>(groups: &Groups, best: W) -> bool
-    ensures { (n : ℕ) (ls : List (Link W.Weight.Value)) (p : Point) → Tracks n p.done groups.now → W.Weight.value best ≡ best_weight (kind_of W.Weight) n ls p → ended (kind_of W.Weight) n ls p ≡ not result }
+    ensures left { result ≡ true → 2 < groups.now.left }
+    ensures over { (n : ℕ) (ls : List (Link W.Weight.Value)) (p : Point) → Tracks n p.done groups.now → W.Weight.value best ≡ best_weight (kind_of W.Weight) n ls p → ended (kind_of W.Weight) n ls p ≡ not result }
 {
     groups.left() > 2 && !best.at_most(W::nothing())
 }
@@ -64,10 +65,16 @@ fn merge<W: Weight>(
     marks: &mut [u8],
     entries: &mut [Entry],
 )
-    requires room { Room n table.old marks.old entries.old }
-    requires less { merger.low < merger.high }
-    requires at { (ls : List (Link W.Weight.Value)) × (p : Point) × At W.Weight n ls p table.old groups.old progress.old marks.old entries.old × (stands n p.done merger.low ≡ true) × (stands n p.done merger.high ≡ true) }
-    ensures at { (ls : List (Link W.Weight.Value)) (p : Point) → At W.Weight n ls p table.old groups.old progress.old marks.old entries.old → stands n p.done merger.low ≡ true → stands n p.done merger.high ≡ true → At W.Weight n ls (mergeAt (kind_of W.Weight) n ls p merger) table.new groups.new progress.new marks.new entries.new }
+    requires units { groups.old.units ≡ n }
+    requires left { 0 < groups.old.left }
+    requires size { n * n ≤ length table.old }
+    requires low { merger.low < n }
+    requires high { merger.high < n }
+    requires marks { n ≤ length marks.old }
+    requires entries { progress.old.mergers < length entries.old }
+    ensures units { groups.new.units ≡ n }
+    ensures left { groups.new.left + 1 ≡ groups.old.left }
+    ensures at { (ls : List (Link W.Weight.Value)) (p : Point) → At W.Weight n ls p table.old groups.old progress.old marks.old entries.old → stands n p.done merger.low ≡ true → stands n p.done merger.high ≡ true → merger.low < merger.high → At W.Weight n ls (mergeAt (kind_of W.Weight) n ls p merger) table.new groups.new progress.new marks.new entries.new }
     ensures spared { Spared n progress.new.mergers table.old table.new marks.old marks.new entries.old entries.new }
     ensures mergers { progress.new.mergers ≡ progress.old.mergers + 1 }
     ensures scans { progress.new.scans ≡ progress.old.scans }
@@ -105,21 +112,24 @@ fn merge_found<W: Weight>(
     marks: &mut [u8],
     entries: &mut [Entry],
 )
-    requires room { Room n table.old marks.old entries.old }
+    requires units { groups.old.units ≡ n }
     requires found { found.now.classes.units ≡ n }
+    requires room { Room n table.old marks.old entries.old }
+    requires counted { progress.old.mergers + groups.old.left ≡ n }
     requires scans { progress.old.scans ≤ 64 }
-    requires at { (ls : List (Link W.Weight.Value)) × (p : Point) × At W.Weight n ls p table.old groups.old progress.old marks.old entries.old }
+    ensures units { groups.new.units ≡ n }
+    ensures counted { progress.new.mergers + groups.new.left ≡ n }
+    ensures grown { progress.old.mergers ≤ progress.new.mergers }
     ensures at { (ls : List (Link W.Weight.Value)) (p : Point) → At W.Weight n ls p table.old groups.old progress.old marks.old entries.old → At W.Weight n ls (merge_found (kind_of W.Weight) n ls (pairs_of found.now) p) table.new groups.new progress.new marks.new entries.new }
     ensures spared { Spared n progress.new.mergers table.old table.new marks.old marks.new entries.old entries.new }
     ensures scans { progress.new.scans ≡ progress.old.scans }
 {
-    for i in 0..found.count() {
+    for &(first, second) in found.pairs() {
         if !goes_on(groups, progress.best) {
             break;
         }
-        let (a, b) = found.pair(i);
-        let a = groups.of(a);
-        let b = groups.of(b);
+        let a = groups.of(first);
+        let b = groups.of(second);
         if a == b {
             continue;
         }
@@ -139,14 +149,18 @@ fn round<W: Weight, Q: PriorityQueue<Weight = W>>(
     entries: &mut [Entry],
 )
     requires sound { Q.PriorityQueue.sound queue.old }
+    requires units { groups.old.units ≡ n }
+    requires left { 0 < groups.old.left }
     requires room { Room n table.old marks.old entries.old }
-    requires some { 2 ≤ n }
-    requires scans { progress.old.scans ≤ progress.old.mergers }
-    requires at { (ls : List (Link W.Weight.Value)) × (p : Point) × At W.Weight n ls p table.old groups.old progress.old marks.old entries.old × Work (kind_of W.Weight) n ls p × (ended (kind_of W.Weight) n ls p ≡ false) }
+    requires counted { progress.old.mergers + groups.old.left ≡ n }
+    requires scans { progress.old.scans < 64 }
     ensures sound { Q.PriorityQueue.sound queue.new }
+    ensures units { groups.new.units ≡ n }
+    ensures counted { progress.new.mergers + groups.new.left ≡ n }
     ensures at { (ls : List (Link W.Weight.Value)) (p : Point) → At W.Weight n ls p table.old groups.old progress.old marks.old entries.old → Work (kind_of W.Weight) n ls p → ended (kind_of W.Weight) n ls p ≡ false → (q : Point) × At W.Weight n ls q table.new groups.new progress.new marks.new entries.new × Work (kind_of W.Weight) n ls q }
-    ensures more { progress.old.mergers < progress.new.mergers }
-    ensures scans { progress.new.scans ≤ progress.new.mergers }
+    ensures more { (ls : List (Link W.Weight.Value)) (p : Point) → At W.Weight n ls p table.old groups.old progress.old marks.old entries.old → Work (kind_of W.Weight) n ls p → ended (kind_of W.Weight) n ls p ≡ false → progress.old.mergers < progress.new.mergers }
+    ensures grown { progress.old.mergers ≤ progress.new.mergers }
+    ensures scans { progress.new.scans ≤ progress.old.scans + 1 }
     ensures spared { Spared n progress.new.mergers table.old table.new marks.old marks.new entries.old entries.new }
     ensures later { progress.old.scans ≤ progress.new.scans }
     ensures unscanned { progress.new.scans ≡ progress.old.scans → queue.new ≡ queue.old }
@@ -176,7 +190,6 @@ pub fn contract<W: Weight, Q: PriorityQueue<Weight = W>>(
     requires sound { Q.PriorityQueue.sound queue.old }
     requires some { 2 ≤ n }
     requires room { Room n table.old marks.old entries.old }
-    requires holds { (ls : List (Link W.Weight.Value)) × Sound (kind_of W.Weight) n ls × Holds W.Weight n ls [] table.old }
     ensures sound { Q.PriorityQueue.sound queue.new }
     ensures outcome { (ls : List (Link W.Weight.Value)) → Sound (kind_of W.Weight) n ls → Holds W.Weight n ls [] table.old → Outcome (kind_of W.Weight) n ls (W.Weight.value result.best) marks.new (take result.mergers entries.new) result.scans }
     ensures spared { Spared n result.mergers table.old table.new marks.old marks.new entries.old entries.new }
@@ -192,7 +205,11 @@ pub fn contract<W: Weight, Q: PriorityQueue<Weight = W>>(
         mergers: 0,
         scans: 0,
     };
-    while goes_on(&groups, progress.best) {
+    // each round merges a pair where the table is that of a plan, so that n rounds are enough
+    for _round in 0..n {
+        if !goes_on(&groups, progress.best) {
+            break;
+        }
         round(queue, table, &mut groups, n, &mut progress, marks, entries);
     }
     turn_over(marks, n);

@@ -13,6 +13,17 @@ fn mark_of(groups: &Groups, unit: usize, group: usize) -> u8
     if groups.of(unit) == group { 1 } else { 0 }
 }
 
+// Each mark becomes that of the unit of its number.
+fn mark_units(groups: &Groups, group: usize, marks: &mut [u8])
+    requires { length marks.old ≤ groups.now.units }
+    ensures length { length marks.new ≡ length marks.old }
+    ensures marked { Marks (length marks.old) (λ x. nat_eq (slice_index groups.now.names x) group) marks.new }
+{
+    for (unit, mark) in marks.iter_mut().enumerate() {
+        *mark = mark_of(groups, unit, group);
+    }
+}
+
 // Marks the units of one group.
 pub fn mark_group(groups: &Groups, n: usize, group: usize, marks: &mut [u8])
     requires units { groups.now.units ≡ n }
@@ -20,9 +31,7 @@ pub fn mark_group(groups: &Groups, n: usize, group: usize, marks: &mut [u8])
     ensures marked { Marks n (λ x. nat_eq (slice_index groups.now.names x) group) marks.new }
     ensures rest { drop n marks.new ≡ drop n marks.old }
 {
-    for unit in 0..n {
-        marks[unit] = mark_of(groups, unit, group);
-    }
+    mark_units(groups, group, &mut marks[0..n]);
 }
 
 // The mark of the other side.
@@ -30,6 +39,16 @@ fn other_mark(mark: u8) -> u8
     ensures { result ≡ (if nat_eq mark 0 then 1 else 0) }
 {
     if mark == 0 { 1 } else { 0 }
+}
+
+// Each mark becomes that of the other side.
+fn turn_all(marks: &mut [u8])
+    ensures length { length marks.new ≡ length marks.old }
+    ensures turned { (x : ℕ) → x < length marks.old → slice_index marks.new x ≡ (if nat_eq (slice_index marks.old x) 0 then 1 else 0) }
+{
+    for mark in marks {
+        *mark = other_mark(*mark);
+    }
 }
 
 // Turns the marks over where unit 0 is marked.
@@ -42,7 +61,5 @@ pub fn turn_over(marks: &mut [u8], n: usize)
     if marks[0] == 0 {
         return;
     }
-    for unit in 0..n {
-        marks[unit] = other_mark(marks[unit]);
-    }
+    turn_all(&mut marks[0..n]);
 }

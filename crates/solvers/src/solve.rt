@@ -29,7 +29,6 @@ pub fn work_out<W: Weight, Q: PriorityQueue<Weight = W>>(
     requires queue { Q.PriorityQueue.sound queue.old }
     requires some { 2 ≤ n }
     requires room { Room n table.old marks.old entries.old }
-    requires holds { (ls : List (Joint W.Weight.Value)) × Light (kind_of W.Weight) n ls × Holds W.Weight n ls [] table.old }
     ensures sound { Q.PriorityQueue.sound queue.new }
     ensures new { result.kept ≡ false }
     ensures outcome { (ls : List (Joint W.Weight.Value)) → Light (kind_of W.Weight) n ls → Holds W.Weight n ls [] table.old → Outcome (kind_of W.Weight) n ls (W.Weight.value result.figure) marks.new (take result.mergers entries.new) result.scans }
@@ -38,7 +37,7 @@ pub fn work_out<W: Weight, Q: PriorityQueue<Weight = W>>(
     ensures queue { QueueLeft Q.PriorityQueue.key result.scans queue.old queue.new }
 {
     let progress = contract(queue, table, n, marks, entries);
-    clear(table, n);
+    clear(table, n * n);
     Answer {
         figure: progress.best,
         mergers: progress.mergers,

@@ -1,4 +1,4 @@
-use Rattle.std.proofs.Common.{◌≡◌, ◌-◌, ◌<◌, ◌≤◌, List, []}
+use Rattle.std.proofs.Common.{◌≡◌, ◌+◌, ◌<◌, ◌≤◌, List, []}
 use Rattle.cuts.specs.Kinds.{kind_of}
 use Rattle.cuts.specs.Links.{Link, Sound}
 use Rattle.cuts.specs.Records.{Point, Work}
@@ -7,18 +7,21 @@ use Rattle.tables.specs.Meaning.{Holds}
 use Rattle.contractions.specs.Progress.{At, Room, Spared}
 use Rattle.contractions.proofs.contraction.contract.Given as goal
 
-abbrev pub invariant-loop-groups : goal.invariant-loop-groups
-invariant-loop-groups g l =
+-- best, mergers and scans stand in this order in the progress
+abbrev pub invariant-loop-round : goal.invariant-loop-round
+invariant-loop-round g l =
     let w = g.W.Weight in
     let q = g.Q.PriorityQueue in
-    q.sound l.queue
-    × Room l.n l.table l.marks l.entries
-    × ((ls : List (Link w.Value)) → Sound (kind_of w) l.n ls → Holds w l.n ls [] l.initial.table
-    → (p : Point) × At w l.n ls p l.table l.groups l.progress l.marks l.entries × Work (kind_of w) l.n ls p)
-    × (l.progress.scans ≤ l.progress.mergers)
-    × Spared l.n l.progress.mergers l.initial.table l.table l.initial.marks l.marks l.initial.entries l.entries
-    × (l.progress.scans ≡ 0 → l.queue ≡ l.initial.queue)
-    × (0 < l.progress.scans → Empty (q.key l.queue))
-
-abbrev pub decreases-loop-groups : goal.decreases-loop-groups
-decreases-loop-groups g l = l.n - l.progress.mergers
+    let merged = l.progress.1.0 in
+    let looked = l.progress.1.1.0 in record {
+      sound : q.sound l.queue;
+      room : Room l.n l.table l.marks l.entries;
+      units : l.groups.units ≡ l.n;
+      counted : merged + l.groups.left ≡ l.n;
+      scans : looked ≤ l._round;
+      at : (ls : List (Link w.Value)) → Sound (kind_of w) l.n ls → Holds w l.n ls [] l.initial.table
+          → (p : Point) × At w l.n ls p l.table l.groups (record { best = l.progress.0; mergers = merged; scans = looked }) l.marks l.entries × Work (kind_of w) l.n ls p × (l._round ≤ merged);
+      spared : Spared l.n merged l.initial.table l.table l.initial.marks l.marks l.initial.entries l.entries;
+      unscanned : looked ≡ 0 → l.queue ≡ l.initial.queue;
+      scanned : 0 < looked → Empty (q.key l.queue);
+    }

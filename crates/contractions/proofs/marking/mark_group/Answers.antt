@@ -1,12 +1,9 @@
-use Rattle.std.proofs.Common.{cond, eqb, get_or, ◌∙◌, arith}
-use Rattle.std.proofs.lemmas.List.{drop-set-lt}
-use Rattle.contractions.proofs.Marked.{mark_more}
+use Rattle.std.proofs.Common.{◌≡◌, length, take, ◌∙◌, arith, length-take}
+use Rattle.std.proofs.lemmas.List.{get_or_append_left}
 use Rattle.contractions.proofs.marking.mark_group.Goals as goal
 
-pub loop-unit-preserved : goal.loop-unit-preserved
-loop-unit-preserved c =
-    let i = c.loop-unit.unit in
-    let marks = c.loop-unit.marks in (
-      mark_more (λ x. cond (eqb (get_or c.args.groups.now.names x 0) c.args.group) 1 0) marks i _ (omega arith) c.mark_of.ensures c.loop-unit.invariant.0,
-      drop-set-lt c.args.n marks i _ (omega arith) ∙ c.loop-unit.invariant.1,
-    )
+pub returns-clause-marked : goal.returns-clause-marked
+returns-clause-marked c = λ x lt.
+    let size : length (take c.args.n c.args.marks.now) ≡ c.args.n = grind (arith, length-take) in
+    let same = c.mark_units.ensures.length in
+    get_or_append_left c.mark_units.new.marks _ 0 x (omega (arith, size, same)) ∙ c.mark_units.ensures.marked x (omega (arith, size))
