@@ -1,4 +1,11 @@
 // From the bytes of a sheet to the lines that the program prints.
+ghost use Rattle.std.specs.Prelude.{◌≡◌, ◌≢◌, IfOk, Some, slice_get};
+ghost use Rattle.std.specs.String.{string_bytes};
+ghost use Rattle.refusals.specs.Numbers.{number_of};
+ghost use Rattle.reports.specs.Lines.{line, TellsFault};
+ghost use Rattle.weights.specs.contracts.plain.PlainWeight.TheImpl.{ghosts as plainKind};
+ghost use Rattle.weights.specs.contracts.ranked.RankedWeight.TheImpl.{ghosts as rankedKind};
+
 use answers::weakest::weakest;
 use cuts::entry::Entry;
 use cuts::ground::Ground;
@@ -46,12 +53,16 @@ fn shown<W: Weight>(
 }
 
 // The line of a refusal: its number.
-fn refused(heap: Global, why: Refusal) -> Result<String, AllocError> {
+fn refused(heap: Global, why: Refusal) -> Result<String, AllocError>
+    ensures { IfOk result (λ text. string_bytes text ≡ line (number_of why)) }
+{
     format!(in heap; "{}\n", why.number())
 }
 
 // The lines of a sheet for one weight kind: figure, marked codes and record, or only a refusal's number.
-fn report_as<W: Weight>(heap: Global, bytes: &[u8]) -> Result<String, AllocError> {
+fn report_as<W: Weight>(heap: Global, bytes: &[u8]) -> Result<String, AllocError>
+    ensures { IfOk result (λ text. TellsFault W.Weight bytes.now (string_bytes text)) }
+{
     let mut links = vec![in heap; Link::<W>::blank(); LINKS]?;
     let mut slots = vec![in heap; Slot::<W>::empty(); GROUPS]?;
     let mut table = vec![in heap; W::nothing(); UNITS * UNITS]?;
@@ -81,7 +92,10 @@ fn report_as<W: Weight>(heap: Global, bytes: &[u8]) -> Result<String, AllocError
 }
 
 // The lines that the program prints of a sheet: ranked weights if its kind byte is 2, else plain ones.
-pub fn report(heap: Global, bytes: &[u8]) -> Result<String, AllocError> {
+pub fn report(heap: Global, bytes: &[u8]) -> Result<String, AllocError>
+    ensures ranked { slice_get bytes.now 5 ≡ Some 2 → IfOk result (λ text. TellsFault rankedKind bytes.now (string_bytes text)) }
+    ensures plain { slice_get bytes.now 5 ≢ Some 2 → IfOk result (λ text. TellsFault plainKind bytes.now (string_bytes text)) }
+{
     match bytes.get(5) {
         Some(2) => report_as::<Ranked>(heap, bytes),
         _ => report_as::<Plain>(heap, bytes),
