@@ -7,9 +7,9 @@ use Rattle.cuts.specs.declared.entry.Entry.{Entry}
 use Rattle.cuts.specs.Kinds.{kind_of}
 use Rattle.cuts.specs.Links.{Link}
 use Rattle.cuts.specs.Divisions.{weight_of}
-use Rattle.cuts.specs.Groups.{group, stands, Joins}
+use Rattle.cuts.specs.Groups.{group, stands}
 use Rattle.cuts.specs.Records.{Point, better, merge}
-use Rattle.cuts.proofs.Names.{named, named_more, joins_more, stands_more}
+use Rattle.cuts.proofs.Names.{named, joins_more, stands_more}
 use Rattle.cuts.proofs.Mergers.{length_more}
 use Rattle.tables.specs.declared.groups.Groups.{Groups}
 use Rattle.tables.specs.Meaning.{at, Tracks, Holds, Explains}

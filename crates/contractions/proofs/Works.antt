@@ -1,5 +1,5 @@
 -- The work from its start to its end.
-use Rattle.std.proofs.Common.{◌≡◌, ℕ, ◌<◌, true, cond, eqb, List, [], get_or, take, sym, refl, ap, ◌∙◌, subst, ⊎_elim, arith, ◌≤◌, length, ◌+◌}
+use Rattle.std.proofs.Common.{◌≡◌, ℕ, ◌<◌, true, cond, eqb, List, [], get_or, take, sym, refl, ap, ◌∙◌, subst, ⊎_elim, arith, ◌≤◌}
 use Rattle.std.proofs.lemmas.Bool.{cases_Bool, cases_lt}
 use Rattle.weights.specs.declared.weight.Weight.{Ghosts}
 use Rattle.cuts.specs.declared.entry.Entry.{Entry}

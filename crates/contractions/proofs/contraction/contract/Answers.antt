@@ -1,4 +1,4 @@
-use Rattle.std.proofs.Common.{◌≡◌, ◌+◌, ◌<◌, ◌≤◌, true, [], take, sym, refl, ◌∙◌, subst, arith}
+use Rattle.std.proofs.Common.{◌≡◌, true, [], take, sym, refl, ◌∙◌, subst, arith}
 use Rattle.cuts.specs.Kinds.{kind_of}
 use Rattle.cuts.specs.Groups.{group}
 use Rattle.cuts.specs.Outcomes.{Outcome}
