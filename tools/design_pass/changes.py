@@ -1,0 +1,79 @@
+#!/usr/bin/env python3
+"""Prints, as Markdown, the clauses, signatures and definitions that changed since a commit: the old lines, then the new ones.
+
+    python3 tools/design_pass/changes.py COMMIT
+
+The crates of the commit are first given the names that they have today, so that each function is found again.
+The comparison itself is the kit's /opt/rattle/port/contracts.py.
+"""
+import glob, io, json, os, subprocess, sys, tarfile, tempfile
+
+# the crates of the commit that have another name today, and those that stood beside them as twins
+RENAMED = [('filings', 'older_filings'), ('kept_plans', 'filings'), ('worked', 'older_worked'), ('worked_answers', 'worked'),
+           ('random_calls', 'older_random'), ('random_answers', 'random_calls')]
+TESTS = ('worked', 'random_calls', 'round_trips', 'older_', 'conformance')
+
+
+def old_tree(commit):
+    folder = tempfile.mkdtemp()
+    data = subprocess.run(['git', 'archive', commit, 'crates', 'crates.txt'], capture_output=True, check=True).stdout
+    tarfile.open(fileobj=io.BytesIO(data)).extractall(folder)
+    for old, new in RENAMED:
+        os.rename(f'{folder}/crates/{old}', f'{folder}/crates/{new}')
+    for p in glob.glob(folder + '/crates/**/*', recursive=True) + [folder + '/crates.txt']:
+        if p.endswith(('.rt', '.antt', 'crates.txt')):
+            text = open(p, encoding='utf-8').read()
+            for word, name in (('kept_plans', 'filings'), ('worked_answers', 'worked'), ('random_answers', 'random_calls')):
+                text = text.replace(word, name)
+            open(p, 'w', encoding='utf-8').write(text)
+    return folder
+
+
+def clauses(kind, pairs):
+    return [f'{kind} {name} {{ {text} }}' if name else f'{kind} {{ {text} }}' for name, text in pairs]
+
+
+def block(title, old, new):
+    print(f'`{title}`\n\n```diff')
+    for line in old:
+        if line not in new:
+            print('- ' + line)
+    for line in new:
+        if line not in old:
+            print('+ ' + line)
+    print('```\n')
+
+
+def main():
+    told = subprocess.run(['python3', '/opt/rattle/port/contracts.py', old_tree(sys.argv[1]), '.', '--json'], capture_output=True, text=True).stdout
+    data = json.loads(told)
+    signatures = {name: (old, new) for name, old, new in data['signatures changed']}
+    print('### Contracts\n')
+    shown = set()
+    for name, old_asks, old_gives, new_asks, new_gives in data['contracts changed']:
+        if name.startswith(TESTS):
+            continue
+        shown.add(name)
+        old = clauses('requires', old_asks) + clauses('ensures', old_gives)
+        new = clauses('requires', new_asks) + clauses('ensures', new_gives)
+        if name in signatures:
+            before, after = signatures[name]
+            old, new = ['fn ' + ' '.join(before.split())] + old, ['fn ' + ' '.join(after.split())] + new
+        block(name, old, new)
+    print('### Signatures whose clauses stayed\n')
+    for name, (before, after) in signatures.items():
+        if name not in shown and not name.startswith(TESTS):
+            block(name, ['fn ' + ' '.join(before.split())], ['fn ' + ' '.join(after.split())])
+    print('### Definitions and ghost items\n')
+    for crate, item, old, new in data['definitions']['changed']:
+        block(f'{crate} {item}', old, new)
+    for crate, place, item, old, new in data['ghost items and constants']['changed']:
+        block(f'{crate} {place} {item}', old, new)
+    print('### Edits whose text changed\n\nEach keeps its name and its wrong meaning.\n')
+    for crate, path, old, new in data['edits and outputs']['changed']:
+        if path.endswith('.edit'):
+            block(f'{crate} {os.path.basename(path)}', [old], [new])
+
+
+if __name__ == '__main__':
+    main()
