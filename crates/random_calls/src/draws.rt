@@ -1,6 +1,4 @@
 // Calls with pseudo-random arguments: many that are to be accepted, and many with one fault or several.
-ghost use Rattle.std.specs.Prelude.{ℕ, ◌<◌, ◌≤◌};
-
 use crate::calls::Call;
 use crate::model::{Lent, Model};
 use samples::coded::code;

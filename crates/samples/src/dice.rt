@@ -32,11 +32,11 @@ impl Dice {
         (self.state >> 33) as usize % bound
     }
 
-    // Whether a number below so many is 0, as it is once in so many cases.
+    // Whether a number below so many is 0, as it is once in so many cases, and always in none.
     pub fn one_in(&mut self, cases: usize) -> bool
-        requires { 0 < cases }
         ensures state { self.new.state ≡ following self.old.state }
-        ensures test { IsTrue result ↔ (reduced self.new.state cases ≡ 0) }
+        ensures test { 0 < cases → (IsTrue result ↔ (reduced self.new.state cases ≡ 0)) }
+        ensures always { cases ≡ 0 → IsTrue result }
     {
         self.below(cases) == 0
     }
