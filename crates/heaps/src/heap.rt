@@ -7,13 +7,15 @@ ghost use Rattle.heaps.specs.Entries.{before as ahead};
 ghost use Rattle.heaps.specs.Heaped.{placed, standing, heap_key, key_within, Kept, Heaped, Finds, Top};
 
 use crate::entry::{HeapEntry, before, read};
-use queues::queue::{GROUPS, PriorityQueue, enough};
+use queues::queue::{GROUPS, PriorityQueue};
 use refusals::Refusal;
+use refusals::memory::enough;
 use weights::weight::Weight;
 
 // A queue over lent entries, of which the first `count` wait, in the order of a binary heap. `places`
 // says at which place the entry of a waiting group stands; a group waits if the entry there is its own.
-// What the other places hold is unsettled, and places past the 64th are never touched.
+// What the other places hold is unsettled, and places past the 64th are never touched. No heap: the entries are
+// lent, and their number stands beside them; std's heap owns its memory and cannot raise an entry.
 #[derive(Drop)]
 pub struct HeapQueue<'a, W> {
     entries: &'a mut [HeapEntry<W>],
@@ -26,7 +28,7 @@ impl<'a, W: Weight> HeapQueue<'a, W> {
     pub fn check(entries: &[HeapEntry<W>]) -> Result<(), Refusal>
         ensures { Enough result (length entries.now) }
     {
-        enough(entries)
+        enough(entries, GROUPS)
     }
 
     // An empty queue over the lent entries, whatever they hold.

@@ -4,8 +4,9 @@ ghost use Rattle.queues.specs.Keys.{Empty, Unchanged, Becomes, no_heavier};
 ghost use Rattle.queues.specs.Memory.{Enough, Unsettled};
 ghost use Rattle.queues.specs.Slots.{held, keyed, waiting, waiting_within, Fits, Spared, Within, Reached, Best, beats};
 
-use crate::queue::{GROUPS, PriorityQueue, enough};
+use crate::queue::{GROUPS, PriorityQueue};
 use refusals::Refusal;
+use refusals::memory::enough;
 use weights::weight::Weight;
 
 // The place of one group: its key, while the group waits.
@@ -25,6 +26,7 @@ impl<W: Weight> Slot<W> {
 
 // A queue over lent slots, one for each group. No group from `reach` on waits, whatever its slot
 // holds: what the slots from there on hold is unsettled, and slots past the last group are never touched.
+// No heap: the slots are lent, and how far they count stands beside them.
 #[derive(Drop)]
 pub struct ListQueue<'a, W> {
     slots: &'a mut [Slot<W>],
@@ -36,7 +38,7 @@ impl<'a, W: Weight> ListQueue<'a, W> {
     pub fn check(slots: &[Slot<W>]) -> Result<(), Refusal>
         ensures { Enough result (length slots.now) }
     {
-        enough(slots)
+        enough(slots, GROUPS)
     }
 
     // An empty queue over the lent slots, whatever they hold.

@@ -1,7 +1,6 @@
 // What a priority queue is.
-ghost use Rattle.std.specs.Prelude.{◌≡◌, ◌≤◌, ℕ, length, None, Option};
+ghost use Rattle.std.specs.Prelude.{◌≡◌, ◌≤◌, ℕ, None, Option};
 ghost use Rattle.queues.specs.Keys.{Empty, Put, Raised, Taken, no_heavier};
-ghost use Rattle.queues.specs.Memory.{Enough};
 
 use refusals::Refusal;
 use weights::weight::Weight;
@@ -54,14 +53,4 @@ pub trait PriorityQueue {
 
     // only a group from 0 to 63 has a key
     ghost within: { (q : Self) → sound q → (g : ℕ) → 64 ≤ g → key q g ≡ None };
-}
-
-// Whether lent memory has a place for every group: 17 under 64 places.
-pub fn enough<T>(memory: &[T]) -> Result<(), Refusal>
-    ensures { Enough result (length memory.now) }
-{
-    if memory.len() < GROUPS {
-        return Err(Refusal::ShortMemory);
-    }
-    Ok(())
 }

@@ -4,6 +4,8 @@
 ghost use Rattle.std.specs.Prelude.{◌≡◌};
 ghost use Rattle.refusals.specs.Numbers.{number_of};
 
+pub mod memory;
+
 // One case for each number. `docs/RULES.md` says which call refuses with which, and in which order.
 #[derive(Clone, Copy, PartialEq, Eq, Debug)]
 pub enum Refusal {

@@ -10,7 +10,7 @@ pub const LIMIT: u32 = 2_000_000;
 // A weight is exactly its parts, one to eight unsigned 32-bit numbers. Its meaning is a value of
 // `Value`, on which sum, order and amount are given; the laws hold wherever no sum is refused.
 pub trait Weight: Copy {
-    // the byte that stands for the kind in a sheet
+    // the byte that stands for the kind in a sheet; the rules name an associated constant, so no enum lists the kinds
     const KIND: u8;
 
     // how many parts a weight has

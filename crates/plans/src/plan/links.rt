@@ -78,7 +78,7 @@ impl<'a, W: Weight> Plan<'a, W> {
         Ok(())
     }
 
-    // Sets a link in service (1) or out of service (0): 13, 14.
+    // Sets a link in service (1) or out of service (0): 13, 14. A byte, since one that is no mark is refused.
     pub fn mark(&mut self, link: usize, mark: u8) -> Result<(), Refusal>
         requires { Sound W.Weight self.old }
         ensures sound { Sound W.Weight self.new }

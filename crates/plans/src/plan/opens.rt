@@ -7,6 +7,7 @@ ghost use Rattle.plans.specs.Sound.{Sound};
 use crate::plan::{LINKS, Link, Plan, UNITS, Unit};
 use codes::code::FaultCode;
 use refusals::Refusal;
+use refusals::memory::enough;
 use weights::weight::Weight;
 
 impl<W: Weight> Link<W> {
@@ -28,10 +29,7 @@ impl<'a, W: Weight> Plan<'a, W> {
     pub fn check(links: &[Link<W>]) -> Result<(), Refusal>
         ensures { result ≡ reply_of (check (nat_le most_links (length links.now)) Refusal.ShortMemory accepted) tt }
     {
-        if links.len() < LINKS {
-            return Err(Refusal::ShortMemory);
-        }
-        Ok(())
+        enough(links, LINKS)
     }
 
     // A plan with no units and no links.
