@@ -8,11 +8,11 @@ use Rattle.plans.specs.declared.plan.Plan.{Plan}
 use Rattle.plans.specs.Marks.{mark_of, with_mark, Shows, Untouched, Remarked}
 use Rattle.plans.specs.Model.{model_of}
 use Rattle.plans.specs.Sound.{Sound}
-use Rattle.plans.proofs.Keeping.{SameUnits, sound_changed}
+use Rattle.plans.proofs.Keeping.{sound_changed}
 use Rattle.plans.proofs.Linking.{link_size_lem, others}
 
 -- the first i links have their marks from the table, and nothing else is changed
-pub record MarkedTo {W : Type 0} (marks : List ℕ) (before : Plan W) (i : ℕ) (after : Plan W) : Type 0 where
+pub record MarkedTo {W : Type 0} {g : Ghosts W} (marks : List ℕ) (before : Plan W g) (i : ℕ) (after : Plan W g) : Type 0 where
   pub marked : (j : ℕ) (d : Link W) → j < i → get_or after.links.now j d ≡ with_mark (get_or before.links.now j d) (eqb (get_or marks j 0) 1)
   pub rest : (j : ℕ) (d : Link W) → i ≤ j → get_or after.links.now j d ≡ get_or before.links.now j d
   pub size : length after.links.now ≡ length before.links.now
@@ -21,23 +21,23 @@ pub record MarkedTo {W : Type 0} (marks : List ℕ) (before : Plan W) (i : ℕ) 
   pub link_count : after.link_count ≡ before.link_count
   pub total : after.total ≡ before.total
 
--- a plan stays sound where one link is put in service or out
-pub sound_marked : {W : Type 0} (g : Ghosts W) (p q : Plan W) → Sound g p → SameUnits p q → (k : ℕ) (b : Bool) (d : Link W) → k < p.link_count
-    → q.links.now ≡ set p.links.now k (with_mark (get_or p.links.now k d) b) → q.link_count ≡ p.link_count → q.total ≡ p.total → Sound g q
-sound_marked g p q s same k b d h links count total =
-    let joins = s.joins k d (omega arith) h in
-    let e = others g p s k _ h (get_or_default p.links.now k d _ (let m = s.memory in let n = s.short in omega arith)) in
-    sound_changed g p q s same k (λ l. with_mark l b) d h links count
+-- a plan keeps what every plan keeps where one link is put in service or out
+pub sound_marked : {W : Type 0} {g : Ghosts W} (p : Plan W g) (k : ℕ) (b : Bool) (d : Link W) → k < p.link_count
+    → Sound g p.units p.unit_count (set p.links.now k (with_mark (get_or p.links.now k d) b)) p.link_count p.total
+sound_marked {g = g} p k b d h =
+    let joins = p.sound.joins k d (omega arith) h in
+    let e = others p k _ h (get_or_default p.links.now k d _ (let m = p.sound.memory in let n = p.sound.short in omega arith)) in
+    sound_changed p k (λ l. with_mark l b) d h p.total
     (record { first = joins.first; second = joins.second; apart = joins.apart; weighty = joins.weighty })
-    (total ∙ sym e)
-    (let l = s.limited in omega arith)
+    (sym e)
+    (let l = p.sound.limited in omega arith)
 
-module _ {W : Type 0} (marks : List ℕ) (before : Plan W) where
+module _ {W : Type 0} {g : Ghosts W} (marks : List ℕ) (before : Plan W g) where
   -- one link more
-  pub marked_more : (i : ℕ) (b : Bool) (p q : Plan W) (e : Link W) → MarkedTo marks before i p → i < length p.links.now → b ≡ eqb (get_or marks i 0) 1
+  pub marked_more : (i : ℕ) (b : Bool) (p q : Plan W g) (e : Link W) → MarkedTo marks before i p → i < length p.links.now → b ≡ eqb (get_or marks i 0) 1
       → q.links.now ≡ set p.links.now i (with_mark (get_or p.links.now i e) b)
-      → SameUnits p q → q.link_count ≡ p.link_count → q.total ≡ p.total → MarkedTo marks before (i + 1) q
-  marked_more i b p q e m room mark is same link_count total = record {
+      → q.units ≡ p.units → q.unit_count ≡ p.unit_count → q.link_count ≡ p.link_count → q.total ≡ p.total → MarkedTo marks before (i + 1) q
+  marked_more i b p q e m room mark is units unit_count link_count total = record {
     marked = λ j d lt. ⊎_elim
         (λ (here : j ≡ i). subst (λ k. get_or q.links.now k d ≡ with_mark (get_or before.links.now k d) (eqb (get_or marks k 0) 1)) (sym here)
         (ap (λ ls. get_or ls i d) is ∙ get_or-set_same _ i _ d room ∙ ap₂ with_mark (get_or_default p.links.now i e d room ∙ m.rest i d (omega arith)) mark))
@@ -45,13 +45,13 @@ module _ {W : Type 0} (marks : List ℕ) (before : Plan W) where
         (cases_eq j i);
     rest = λ j d le. ap (λ ls. get_or ls j d) is ∙ get_or-set_other _ i j _ d (λ e. omega arith) ∙ m.rest j d (omega arith);
     size = ap length is ∙ length-set _ i _ ∙ m.size;
-    units = same.units ∙ m.units;
-    unit_count = same.count ∙ m.unit_count;
+    units = units ∙ m.units;
+    unit_count = unit_count ∙ m.unit_count;
     link_count = link_count ∙ m.link_count;
     total = total ∙ m.total;
   }
 
-  pub marked_all : (p : Plan W) → MarkedTo marks before before.link_count p → Remarked marks before p
+  pub marked_all : (p : Plan W g) → MarkedTo marks before before.link_count p → Remarked marks before p
   marked_all p m = record { marked = m.marked; rest = m.rest; size = m.size; units = m.units; unit_count = m.unit_count; link_count = m.link_count; total = m.total }
 
 one_mark : (b : Bool) → eqb (cond b 1 0) 1 ≡ b
@@ -59,8 +59,8 @@ one_mark true = refl
 one_mark false = refl
 
 -- marks that the links have already change nothing
-pub remarked_same : {W : Type 0} (g : Ghosts W) (marks : List ℕ) (before after : Plan W) → Sound g before → Shows marks (model_of before).links → Remarked marks before after → Untouched before after
-remarked_same {W} g marks before after s shows r = record {
+pub remarked_same : {W : Type 0} {g : Ghosts W} (marks : List ℕ) (before after : Plan W g) → Shows marks (model_of before).links → Remarked marks before after → Untouched before after
+remarked_same {W} marks before after shows r = record {
   units = r.units;
   unit_count = r.unit_count;
   memory = same_lists after.links.now before.links.now r.size
@@ -73,4 +73,4 @@ remarked_same {W} g marks before after s shows r = record {
 }
   where
     own : (j : ℕ) (d : Link W) → j < before.link_count → get_or marks j 0 ≡ mark_of (get_or before.links.now j d)
-    own j d l = shows j d (rw (link_size_lem g before s) l) ∙ ap mark_of (get_or-take before.link_count before.links.now j d l)
+    own j d l = shows j d (rw (link_size_lem before) l) ∙ ap mark_of (get_or-take before.link_count before.links.now j d l)

@@ -6,7 +6,9 @@ use Rattle.refusals.specs.declared.Refusal.TheVariants.{NotACode, CodeTaken, Ful
 use Rattle.weights.specs.declared.weight.Weight.{Ghosts}
 use Rattle.codes.specs.Code.{is_code}
 use Rattle.plans.specs.declared.plan.Plan.{Plan}
-use Rattle.plans.specs.Model.{Model, model_of, amount_of, total_of, borne_by_other}
+use Rattle.plans.specs.Model.{Model, model_of, borne_by_other}
+pub use Rattle.plans.specs.Sound.{most_links, most_total, most_units}
+use Rattle.plans.specs.Sound.{amount_of, total_of}
 
 -- A verdict is the refusal of the first check that fails, or none where the call is accepted.
 abbrev pub check : Bool → Refusal → Option Refusal → Option Refusal
@@ -14,16 +16,6 @@ check ok e rest = cond ok rest (Some e)
 
 abbrev pub accepted : Option Refusal
 accepted = None
-
--- the most units, links and amounts of a plan
-abbrev pub most_units : ℕ
-most_units = 64
-
-abbrev pub most_links : ℕ
-most_links = 512
-
-abbrev pub most_total : ℕ
-most_total = 1000000
 
 module _ {W : Type 0} (m : Model W) where
   -- enter: 7, 8, 6; the unit gets the number after the last one
@@ -80,7 +72,7 @@ after_of (Some e) new old = old
 
 -- A call with this verdict and answer, by which the model becomes `next`: what it replies and leaves behind.
 -- After a refusal the plan and its lent memory are exactly as before.
-pub record Called {W X : Type 0} (verdict : Option Refusal) (answer : X) (next : Model W) (before : Plan W) (r : Result X Refusal) (after : Plan W) : Type 0 where
+pub record Called {W X : Type 0} {g : Ghosts W} (verdict : Option Refusal) (answer : X) (next : Model W) (before : Plan W g) (r : Result X Refusal) (after : Plan W g) : Type 0 where
   pub reply : r ≡ reply_of verdict answer
   pub model : model_of after ≡ after_of verdict next (model_of before)
   pub same : IfErr r (λ _. after ≡ before)

@@ -1,32 +1,19 @@
 -- A plan as the rules speak of it.
-use Rattle.std.specs.Prelude.{ℕ, zero, suc, ◌+◌, Bool, true, false, not, ◌&&◌, ◌||◌, List, [], ◌∷◌, ◌++◌, map, take, ◌==◌, slice_set}
+use Rattle.std.specs.Prelude.{ℕ, zero, suc, Bool, true, false, not, ◌&&◌, ◌||◌, List, [], ◌∷◌, ◌++◌, map, take, ◌==◌, slice_set}
 use Rattle.std.specs.List.{remove}
 use Rattle.weights.specs.declared.weight.Weight.{Ghosts}
-use Rattle.codes.specs.Held.{bytes_of}
-use Rattle.plans.specs.declared.plan.Unit.{Unit}
 use Rattle.plans.specs.declared.plan.Link.{Link}
 use Rattle.plans.specs.declared.plan.Plan.{Plan}
+pub use Rattle.plans.specs.Sound.{amount_of, code_of, total_of}
 
 -- the codes of the units, in order of entry, and the links: two ends, in service or not, and a weight
 pub record Model (W : Type 0) : Type 0 where
   pub codes : List (List ℕ)
   pub links : List (Link W)
 
-abbrev pub code_of : Unit → List ℕ
-code_of u = bytes_of u.code
-
 -- what a plan in memory stands for; the memory past its units and links is not part of it
-abbrev pub model_of : {W : Type 0} → Plan W → Model W
+abbrev pub model_of : {W : Type 0} {g : Ghosts W} → Plan W g → Model W
 model_of p = record { codes = map code_of (take p.unit_count p.units); links = take p.link_count p.links.now }
-
--- the amount of a weight
-abbrev pub amount_of : {W : Type 0} → Ghosts W → W → ℕ
-amount_of g w = g.size (g.value w)
-
--- the amounts of all links together, in service or out
-abbrev pub total_of : {W : Type 0} → Ghosts W → List (Link W) → ℕ
-total_of g [] = 0
-total_of g (l ∷ ls) = amount_of g l.weight + total_of g ls
 
 -- two texts agree in length and in every character
 abbrev pub same_text : List ℕ → List ℕ → Bool

@@ -1,5 +1,8 @@
 // What a plan is made of.
+ghost use Rattle.plans.specs.Sound.{Sound};
+
 use codes::code::FaultCode;
+use weights::weight::Weight;
 
 pub mod entries;
 pub mod links;
@@ -32,11 +35,13 @@ pub struct Link<W> {
 // The first `unit_count` units and the first `link_count` links are the plan's; what the memory holds
 // past them is unsettled. No heap: units lie in fixed memory and links in lent memory, so each count stands beside.
 #[derive(Drop)]
-pub struct Plan<'a, W> {
+pub struct Plan<'a, W: Weight> {
     units: [Unit; UNITS],
     unit_count: usize,
     links: &'a mut [Link<W>],
     link_count: usize,
     // the amounts of all links together
     total: u32,
+    // what every plan keeps; each call writes the links before the counts
+    pub ghost sound: { Sound W.Weight units unit_count links.now link_count total },
 }

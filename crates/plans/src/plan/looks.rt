@@ -2,7 +2,7 @@
 ghost use Rattle.std.specs.Prelude.{◌≡◌, ℕ, ◌<◌, ◌≤◌, map, length, IfOk, MatchResult, slice_index_or};
 ghost use Rattle.std.specs.List.{AllWithin};
 ghost use Rattle.plans.specs.Model.{model_of, code_of};
-ghost use Rattle.plans.specs.Sound.{Joins, Sound};
+ghost use Rattle.plans.specs.Sound.{Joins};
 
 use crate::plan::{Link, Plan, Unit};
 use refusals::Refusal;
@@ -11,7 +11,6 @@ use weights::weight::Weight;
 impl<'a, W: Weight> Plan<'a, W> {
     // How many units there are.
     pub fn unit_count(&self) -> usize
-        requires { Sound W.Weight self.now }
         ensures value { result ≡ self.now.unit_count }
         ensures units { result ≡ length (model_of self.now).codes }
     {
@@ -20,7 +19,6 @@ impl<'a, W: Weight> Plan<'a, W> {
 
     // How many links there are.
     pub fn link_count(&self) -> usize
-        requires { Sound W.Weight self.now }
         ensures value { result ≡ self.now.link_count }
         ensures links { result ≡ length (model_of self.now).links }
     {
@@ -29,7 +27,6 @@ impl<'a, W: Weight> Plan<'a, W> {
 
     // The units, by number.
     pub fn units(&self) -> &[Unit]
-        requires { Sound W.Weight self.now }
         ensures { map code_of result.now ≡ (model_of self.now).codes }
     {
         &self.units[..self.unit_count]
@@ -37,7 +34,6 @@ impl<'a, W: Weight> Plan<'a, W> {
 
     // The links, by number.
     pub fn links(&self) -> &[Link<W>]
-        requires { Sound W.Weight self.now }
         ensures value { result.now ≡ (model_of self.now).links }
         ensures len { length result.now ≡ self.now.link_count }
         ensures joins { AllWithin (Joins W.Weight self.now.unit_count) result.now 0 (length result.now) }
@@ -47,7 +43,6 @@ impl<'a, W: Weight> Plan<'a, W> {
 
     // The link with a number: 13 if there is none.
     pub fn link_at(&self, link: usize) -> Result<Link<W>, Refusal>
-        requires { Sound W.Weight self.now }
         ensures joins { IfOk result (λ l. Joins W.Weight self.now.unit_count l) }
         ensures value { MatchResult result (λ l. (link < self.now.link_count) × (l ≡ slice_index_or self.now.links.now link l)) (λ e. (e ≡ Refusal.NoSuchLink) × (self.now.link_count ≤ link)) }
     {

@@ -2,7 +2,6 @@
 ghost use Rattle.std.specs.Prelude.{◌≡◌, ℕ, ◌<◌, ◌≤◌, [], length, nat_le};
 ghost use Rattle.plans.specs.Calls.{accepted, check, most_links, reply_of};
 ghost use Rattle.plans.specs.Model.{model_of};
-ghost use Rattle.plans.specs.Sound.{Sound};
 
 use crate::plan::{LINKS, Link, Plan, UNITS, Unit};
 use codes::code::FaultCode;
@@ -35,7 +34,6 @@ impl<'a, W: Weight> Plan<'a, W> {
     // A plan with no units and no links.
     pub fn open(links: &'a mut [Link<W>]) -> Plan<'a, W>
         requires { most_links ≤ length links.old }
-        ensures sound { Sound W.Weight result }
         ensures model { model_of result ≡ record { codes = []; links = [] } }
         ensures memory { result.links.now ≡ links.old }
     {
@@ -53,8 +51,6 @@ impl<'a, W: Weight> Plan<'a, W> {
 
     // No units and no links are left.
     pub fn clear(&mut self)
-        requires { Sound W.Weight self.old }
-        ensures sound { Sound W.Weight self.new }
         ensures model { model_of self.new ≡ record { codes = []; links = [] } }
         ensures memory { self.new.links.now ≡ self.old.links.now }
     {

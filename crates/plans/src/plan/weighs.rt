@@ -6,7 +6,7 @@ ghost use Rattle.plans.specs.Calls.{Answered, most_total};
 ghost use Rattle.cuts.specs.Kinds.{kind_of};
 ghost use Rattle.plans.specs.Divided.{are_marks, marks_count, side_of, valued, weigh_verdict, weighed};
 ghost use Rattle.plans.specs.Model.{model_of, total_of};
-ghost use Rattle.plans.specs.Sound.{Joins, Sound};
+ghost use Rattle.plans.specs.Sound.{Joins};
 
 use crate::plan::{Link, Plan};
 use refusals::Refusal;
@@ -61,7 +61,6 @@ fn cut_weight<W: Weight>(links: &[Link<W>], marks: &[u8]) -> W
 impl<'a, W: Weight> Plan<'a, W> {
     // The weight of the division that one byte for each unit marks: 15 below two units, 14, then 15 if none or all are marked.
     pub fn weigh(&self, marks: &[u8]) -> Result<W, Refusal>
-        requires { Sound W.Weight self.now }
         ensures { Answered (weigh_verdict (model_of self.now) marks.now) W.Weight.value (weighed W.Weight (model_of self.now) marks.now) result }
     {
         let units = self.unit_count;
@@ -80,7 +79,6 @@ impl<'a, W: Weight> Plan<'a, W> {
 
     // The weight of what one byte for each unit cuts.
     pub fn cut(&self, marks: &[u8]) -> W
-        requires sound { Sound W.Weight self.now }
         requires size { length marks.now ≡ self.now.unit_count }
         ensures { W.Weight.value result ≡ weighed W.Weight (model_of self.now) marks.now }
     {

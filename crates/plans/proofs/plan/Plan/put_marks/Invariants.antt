@@ -1,6 +1,5 @@
-use Rattle.plans.specs.Sound.{Sound}
 use Rattle.plans.proofs.Marking.{MarkedTo}
 use Rattle.plans.proofs.plan.Plan.put_marks.Given as goal
 
 abbrev pub invariant-loop-i : goal.invariant-loop-i
-invariant-loop-i g l = Sound g.W.Weight l.self × MarkedTo l.marks l.initial.self l.i l.self
+invariant-loop-i g l = MarkedTo l.marks l.initial.self l.i l.self
