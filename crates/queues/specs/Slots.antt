@@ -23,10 +23,6 @@ waiting slots reach g = cond (nat_lt g reach) (keyed slots g) None
 pub waiting_within : {W : Type 0} (slots : List (Slot W)) (reach g : ℕ) → reach ≤ 64 → 64 ≤ g → waiting slots reach g ≡ None
 waiting_within slots reach g low far = cond-false (nat_lt g reach) (keyed slots g) None (le-ltb g reach (omega arith))
 
--- what the slots past the last group hold is as it was
-abbrev pub Spared : {W : Type 0} → List (Slot W) → List (Slot W) → Type 0
-Spared old new = (g : ℕ) → 64 ≤ g → keyed new g ≡ keyed old g
-
 -- what makes a list sound: its reach stays within the groups, and there is a slot for each group
 abbrev pub Fits : ℕ → ℕ → Type 0
 Fits size reach = (reach ≤ 64) × (64 ≤ size)

@@ -2,7 +2,7 @@
 ghost use Rattle.std.specs.Prelude.{◌≡◌, ℕ, ◌<◌, ◌≤◌, length, Some, None};
 ghost use Rattle.queues.specs.Keys.{Empty, Unchanged, Becomes, no_heavier};
 ghost use Rattle.queues.specs.Memory.{Enough, Unsettled};
-ghost use Rattle.queues.specs.Slots.{held, keyed, waiting, waiting_within, Fits, Spared, Within, Reached, Best, beats};
+ghost use Rattle.queues.specs.Slots.{held, waiting, waiting_within, Fits, Within, Reached, Best, beats};
 
 use crate::queue::{GROUPS, PriorityQueue};
 use refusals::Refusal;
@@ -57,7 +57,8 @@ impl<'a, W: Weight> ListQueue<'a, W> {
         ensures key { result ≡ waiting self.now.slots.now self.now.reach group }
         ensures within { Within result group }
     {
-        key_at(self.slots, self.reach, group)
+        let slot = self.slots[..self.reach].get(group)?;
+        slot.key
     }
 
     // The heaviest entry; of equally heavy ones that of the lowest group.
@@ -66,7 +67,15 @@ impl<'a, W: Weight> ListQueue<'a, W> {
         ensures within { Reached result self.now.reach }
         ensures best { Best (no_heavier W.Weight) (waiting self.now.slots.now self.now.reach) result }
     {
-        heaviest_of(self.slots, self.reach)
+        let mut best: Option<(usize, W)> = None;
+        for (group, slot) in self.slots[..self.reach].iter().enumerate() {
+            if let Some(key) = slot.key {
+                if heavier(key, best) {
+                    best = Some((group, key));
+                }
+            }
+        }
+        best
     }
 
     // Gives a group a key, whether it waited or not.
@@ -75,7 +84,6 @@ impl<'a, W: Weight> ListQueue<'a, W> {
         requires within { group < 64 }
         ensures sound { Fits (length self.new.slots.now) self.new.reach }
         ensures key { Becomes (waiting self.old.slots.now self.old.reach) (waiting self.new.slots.now self.new.reach) group (Some key) }
-        ensures rest { Spared self.old.slots.now self.new.slots.now }
         ensures memory { Unsettled 64 self.old.slots.now self.new.slots.now }
     {
         self.reach_past(group);
@@ -88,7 +96,6 @@ impl<'a, W: Weight> ListQueue<'a, W> {
         requires reached { group < self.old.reach }
         ensures sound { Fits (length self.new.slots.now) self.new.reach }
         ensures key { Becomes (waiting self.old.slots.now self.old.reach) (waiting self.new.slots.now self.new.reach) group None }
-        ensures rest { Spared self.old.slots.now self.new.slots.now }
         ensures memory { Unsettled 64 self.old.slots.now self.new.slots.now }
     {
         self.slots[group].key = None;
@@ -101,15 +108,12 @@ impl<'a, W: Weight> ListQueue<'a, W> {
         ensures sound { Fits (length self.new.slots.now) self.new.reach }
         ensures reached { group < self.new.reach }
         ensures same { Unchanged (waiting self.old.slots.now self.old.reach) (waiting self.new.slots.now self.new.reach) }
-        ensures rest { Spared self.old.slots.now self.new.slots.now }
         ensures memory { Unsettled 64 self.old.slots.now self.new.slots.now }
     {
-        if group < self.reach {
-            return;
+        if group >= self.reach {
+            self.slots[self.reach..=group].fill(Slot::empty());
+            self.reach = group + 1;
         }
-        let reach = self.reach;
-        empty_between(self.slots, reach, group + 1);
-        self.reach = group + 1;
     }
 }
 
@@ -132,7 +136,7 @@ impl<'a, W: Weight> PriorityQueue for ListQueue<'a, W> {
         if group >= GROUPS {
             return Err(Refusal::NoSuchUnit);
         }
-        if let Some(_) = self.key_of(group) {
+        if self.key_of(group).is_some() {
             return Err(Refusal::AlreadyWaiting);
         }
         self.set_key(group, weight);
@@ -140,70 +144,22 @@ impl<'a, W: Weight> PriorityQueue for ListQueue<'a, W> {
     }
 
     fn raise(&mut self, group: usize, by: W) -> Result<W, Refusal> {
-        let Some(old) = self.key_of(group) else {
-            return Err(Refusal::NotWaiting);
-        };
+        let old = self.key_of(group).ok_or(Refusal::NotWaiting)?;
         let key = old.sum(by)?;
         self.set_key(group, key);
         Ok(key)
     }
 
     fn take(&mut self) -> Option<(usize, W)> {
-        let found = self.heaviest();
-        if let Some((group, _)) = found {
-            self.remove(group);
-        }
-        found
+        let (group, key) = self.heaviest()?;
+        self.remove(group);
+        Some((group, key))
     }
-}
-
-// The key of a group, where it waits.
-fn key_at<W: Weight>(slots: &[Slot<W>], reach: usize, group: usize) -> Option<W>
-    requires { reach ≤ length slots.now }
-    ensures { result ≡ waiting slots.now reach group }
-{
-    if group >= reach {
-        return None;
-    }
-    slots[group].key
-}
-
-// Empties the slots from one place up to, and without, another: so many more count, and none of them waits.
-fn empty_between<W: Weight>(slots: &mut [Slot<W>], from: usize, to: usize)
-    requires order { from ≤ to }
-    requires within { to ≤ length slots.old }
-    ensures same { Unchanged (waiting slots.old from) (waiting slots.new to) }
-    ensures rest { (g : ℕ) → to ≤ g → keyed slots.new g ≡ keyed slots.old g }
-    ensures memory { Unsettled to slots.old slots.new }
-{
-    // by index: over a part of the slots the places would be counted from `from`, and the clauses name them
-    for i in from..to {
-        slots[i].key = None;
-    }
-}
-
-// The heaviest entry; of equally heavy ones that of the lowest group.
-fn heaviest_of<W: Weight>(slots: &[Slot<W>], reach: usize) -> Option<(usize, W)>
-    requires { reach ≤ length slots.now }
-    ensures { Best (no_heavier W.Weight) (waiting slots.now reach) result }
-{
-    let mut best: Option<(usize, W)> = None;
-    for (group, slot) in slots[..reach].iter().enumerate() {
-        if let Some(key) = slot.key {
-            if heavier(key, best) {
-                best = Some((group, key));
-            }
-        }
-    }
-    best
 }
 
 // Whether a key is heavier than the best one so far.
 fn heavier<W: Weight>(key: W, best: Option<(usize, W)>) -> bool
     ensures { result ≡ beats (no_heavier W.Weight) best key }
 {
-    match best {
-        None => true,
-        Some((_, top)) => !key.at_most(top),
-    }
+    best.is_none_or(|(_, top)| !key.at_most(top))
 }

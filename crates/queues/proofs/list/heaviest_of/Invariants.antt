@@ -1,6 +1,0 @@
-use Rattle.queues.specs.Keys.{no_heavier}
-use Rattle.queues.specs.Slots.{Best, waiting}
-use Rattle.queues.proofs.list.heaviest_of.Given as goal
-
-abbrev pub invariant-loop-group : goal.invariant-loop-group
-invariant-loop-group g l = Best (no_heavier g.W.Weight) (waiting l.slots l.group) l.best
