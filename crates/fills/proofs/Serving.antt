@@ -14,7 +14,7 @@ use Rattle.plans.specs.Model.{amount_of, total_of, changed}
 use Rattle.plans.specs.Sound.{Joins}
 use Rattle.std.specs.List.{AllWithin}
 use Rattle.tables.specs.Meaning.{Holds}
-use Rattle.rows.proofs.Fillings.{holds_out}
+use Rattle.tables.proofs.Fillings.{holds_out}
 use Rattle.fills.specs.Served.{served_from, served}
 
 one_mark : (b : Bool) → eqb (cond b 1 0) 1 ≡ b

@@ -1,3 +1,8 @@
 pub mod Bounds
 pub mod Cells
+pub mod Places
 pub mod Trackings
+pub mod Units
+pub mod Fillings
+pub mod Mergers
+pub mod Turns

@@ -5,7 +5,9 @@ use Rattle.cuts.specs.declared.entry.Entry.{Entry}
 use Rattle.cuts.specs.Kinds.{kind_of}
 use Rattle.cuts.specs.Links.{Link, Sound}
 use Rattle.cuts.specs.Groups.{after, stands, Joins, degree, joint}
+use Rattle.tables.specs.declared.graph.Graph.{Graph}
 use Rattle.tables.specs.declared.groups.Groups.{Groups}
+use Rattle.tables.specs.declared.table.Table.{Table}
 
 -- the value of the weight at a place of a list; past its end nothing
 unfoldable pub value_at : {W : Type 0} (g : Ghosts W) → List W → ℕ → g.Value
@@ -37,6 +39,22 @@ module _ {W : Type 0} (g : Ghosts W) (n : ℕ) (ls : List (Link g.Value)) (es : 
     pub holds : Holds table
     pub tracks : Tracks n es groups
 
--- table and groups are those of some plan after some mergers
-abbrev pub Explained : {W : Type 0} (g : Ghosts W) → ℕ → List W → Groups → Type 0
-Explained g n table groups = (ls : List (Link g.Value)) × (es : List Entry) × Explains g n ls es table groups
+-- the entry of a row and a column of the table
+abbrev pub entry_of : {W : Type 0} (g : Ghosts W) → Table W → ℕ → ℕ → g.Value
+entry_of g table row column = at g table.weights.now table.units row column
+
+-- the table is that of the links after the mergers
+abbrev pub HoldsIn : {W : Type 0} (g : Ghosts W) → List (Link g.Value) → List Entry → Table W → Type 0
+HoldsIn g ls es table = Holds g table.units ls es table.weights.now
+
+-- a table lies where it lay, with as many rows
+abbrev pub SameMemory : {W : Type 0} → Table W → Table W → Type 0
+SameMemory old new = (new.units ≡ old.units) × (new.weights.ghost_name ≡ old.weights.ghost_name)
+
+-- the entry of a row and a column of the weights that are seen with their groups
+abbrev pub weight_of : {W : Type 0} (g : Ghosts W) → Graph W → ℕ → ℕ → g.Value
+weight_of g graph row column = at g graph.weights.now graph.groups.now.units row column
+
+-- the weights and groups that are seen are those of the plan with these links after these mergers
+abbrev pub ExplainsIn : {W : Type 0} (g : Ghosts W) → List (Link g.Value) → List Entry → Graph W → Type 0
+ExplainsIn g ls es graph = Explains g graph.groups.now.units ls es graph.weights.now graph.groups.now

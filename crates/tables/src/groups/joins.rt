@@ -24,6 +24,13 @@ impl Groups {
         }
     }
 
+    // How many units there are.
+    pub fn units(&self) -> usize
+        ensures { result ≡ self.now.units }
+    {
+        self.units
+    }
+
     // How many groups stand.
     pub fn left(&self) -> usize
         ensures { result ≡ self.now.left }

@@ -1,5 +1,0 @@
-pub mod Places
-pub mod Units
-pub mod Fillings
-pub mod Mergers
-pub mod Turns

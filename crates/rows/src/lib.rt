@@ -1,4 +1,0 @@
-// Fills the weight table link by link, and merges its rows.
-#![tactic(auto)]
-
-pub mod rows;
