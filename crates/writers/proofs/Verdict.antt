@@ -5,7 +5,6 @@ use Rattle.refusals.specs.declared.Refusal.TheVariants.{UnknownIssue, LongCode}
 use Rattle.weights.specs.declared.weight.Weight.{Ghosts}
 use Rattle.plans.specs.declared.plan.Plan.{Plan}
 use Rattle.plans.specs.Model.{model_of}
-use Rattle.plans.specs.Sound.{Sound}
 use Rattle.plans.proofs.Verdicts.{passes}
 use Rattle.sheets.specs.declared.issue.Issue.{Issue}
 use Rattle.sheets.specs.declared.issue.Issue.TheVariants.{First, Second}
@@ -14,13 +13,13 @@ use Rattle.sheets.specs.Format.{issue_number}
 use Rattle.writers.specs.Written.{has_long_code, Fitting, Refusing}
 use Rattle.writers.proofs.Within.{all_codes, fit_first, fit_second, sound_valid}
 
-module _ {W : Type 0} (g : Ghosts W) (p : Plan W) (number : ℕ) (sound : Sound g p) where
+module _ {W : Type 0} (g : Ghosts W) (p : Plan W g) (number : ℕ) where
   fitting_first : number ≡ 1 → has_long_code (model_of p).codes ≡ false → Fitting g (model_of p) number First
   fitting_first one none =
       let is = eq-eqb number 1 one in
       record {
         named = sym (cond-true (eqb number 1) First Second is);
-        valid = sound_valid g First p sound (fit_first (model_of p).codes (all_codes (take p.unit_count p.units)) none);
+        valid = sound_valid g First p (fit_first (model_of p).codes (all_codes (take p.unit_count p.units)) none);
         left = λ room. passes UnknownIssue _ (or_left (eqb number 1) (eqb number 2) is) ∙ passes LongCode _ (ap not (and_right (eqb number 1) (has_long_code (model_of p).codes) none));
       }
 
@@ -29,7 +28,7 @@ module _ {W : Type 0} (g : Ghosts W) (p : Plan W) (number : ℕ) (sound : Sound 
       let other : eqb number 1 ≡ false = ne_eqb number 1 (λ one. omega arith) in
       record {
         named = sym (cond-false (eqb number 1) First Second other);
-        valid = sound_valid g Second p sound (fit_second (model_of p).codes (all_codes (take p.unit_count p.units)));
+        valid = sound_valid g Second p (fit_second (model_of p).codes (all_codes (take p.unit_count p.units)));
         left = λ room. passes UnknownIssue _ (or_right (eqb number 1) (eqb number 2) (eq-eqb number 2 two)) ∙ passes LongCode _ (ap not (and_left (eqb number 1) (has_long_code (model_of p).codes) other));
       }
 

@@ -1,4 +1,4 @@
--- A sound plan whose codes fit the issue is within the rules of a sheet, and how long its sheet is.
+-- A plan whose codes fit the issue is within the rules of a sheet, and how long its sheet is.
 use Rattle.std.proofs.Common.{◌≡◌, ℕ, ◌+◌, ◌*◌, ◌<◌, ◌≤◌, true, false, ◌||◌, eqb, List, [], ◌∷◌, map, length, take, sym, refl, ap, ◌∙◌, subst, ⊎_elim, suc-mul, arith}
 use Rattle.std.specs.List.{list_any, AllWithin, flat_map, AllByRecursion}
 use Rattle.std.proofs.ByRecursion.{all_from_every}
@@ -11,7 +11,7 @@ use Rattle.plans.specs.declared.plan.Link.{Link}
 use Rattle.plans.specs.declared.plan.Plan.{Plan}
 use Rattle.plans.specs.declared.plan.Unit.{Unit}
 use Rattle.plans.specs.Model.{Model, model_of, code_of}
-use Rattle.plans.specs.Sound.{Sound, Joins}
+use Rattle.plans.specs.Sound.{Joins}
 use Rattle.plans.proofs.Linking.{unit_size, link_size_lem}
 use Rattle.sheets.specs.declared.issue.Issue.{Issue}
 use Rattle.sheets.specs.declared.issue.Issue.TheVariants.{First, Second}
@@ -79,11 +79,12 @@ module _ {W : Type 0} (g : Ghosts W) where
       all_from_every (Joins g n) (take k xs)
       (λ j d low high. let in-it : j < k = omega arith in subst (Joins g n) (sym (get_or-take k xs j d in-it)) (e j d low in-it))
 
-  -- a sound plan whose codes fit
-  pub sound_valid : (issue : Issue) (p : Plan W) → Sound g p → AllByRecursion (λ text. length text ≤ size_of_code issue) (model_of p).codes → Valid g issue (model_of p)
-  sound_valid issue p s fit =
-      let units = unit_size g p s in
-      let links = link_size_lem g p s in
+  -- a plan whose codes fit
+  pub sound_valid : (issue : Issue) (p : Plan W g) → AllByRecursion (λ text. length text ≤ size_of_code issue) (model_of p).codes → Valid g issue (model_of p)
+  sound_valid issue p fit =
+      let s = p.sound in
+      let units = unit_size p in
+      let links = link_size_lem p in
       let few = s.few in
       let short = s.short in
       let counted = s.counted in

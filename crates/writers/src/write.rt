@@ -3,7 +3,6 @@ ghost use Rattle.std.specs.List.{list_any};
 ghost use Rattle.codes.specs.Held.{bytes_of};
 ghost use Rattle.std.specs.Prelude.{◌≡◌, ◌==◌, map, length, MatchResult};
 ghost use Rattle.plans.specs.Model.{code_of, model_of};
-ghost use Rattle.plans.specs.Sound.{Sound};
 ghost use Rattle.sheets.specs.Format.{Valid, sheet_of};
 ghost use Rattle.writers.specs.Fields.{Put, Room};
 ghost use Rattle.writers.specs.Written.{Fitting, Refusing, Written, has_long_code};
@@ -23,7 +22,6 @@ fn any_long(units: &[Unit]) -> bool
 
 // The issue with a number: 2 if there is none, 16 if a code of the plan does not fit it.
 fn issue_for<W: Weight>(plan: &Plan<W>, number: u16) -> Result<Issue, Refusal>
-    requires { Sound W.Weight plan.now }
     ensures { MatchResult result (Fitting W.Weight (model_of plan.now) number) (Refusing W.Weight (model_of plan.now) number) }
 {
     let issue = Issue::try_from(number)?;
@@ -35,7 +33,6 @@ fn issue_for<W: Weight>(plan: &Plan<W>, number: u16) -> Result<Issue, Refusal>
 
 // How many bytes the sheet has: nine in the head, a field for each code, and for each link two ends, a mark and its parts.
 fn sheet_size<W: Weight>(plan: &Plan<W>, issue: Issue) -> usize
-    requires sound { Sound W.Weight plan.now }
     requires valid { Valid W.Weight issue (model_of plan.now) }
     ensures { result ≡ length (sheet_of W.Weight issue (model_of plan.now)) }
 {
@@ -46,7 +43,6 @@ fn sheet_size<W: Weight>(plan: &Plan<W>, issue: Issue) -> usize
 
 // Puts the sheet at the start of the lent bytes: head, codes, links.
 fn put_sheet<W: Weight>(out: &mut [u8], plan: &Plan<W>, issue: Issue) -> usize
-    requires sound { Sound W.Weight plan.now }
     requires room { Room out.old 0 (sheet_of W.Weight issue (model_of plan.now)) }
     ensures { Put out.old 0 (sheet_of W.Weight issue (model_of plan.now)) result out.new }
 {
@@ -62,7 +58,6 @@ fn put_sheet<W: Weight>(out: &mut [u8], plan: &Plan<W>, issue: Issue) -> usize
 
 // Writes the plan's sheet in the issue with a number, and answers its length; the bytes beyond it stay: 2, 16, 17.
 pub fn write<W: Weight>(plan: &Plan<W>, issue: u16, out: &mut [u8]) -> Result<usize, Refusal>
-    requires { Sound W.Weight plan.now }
     ensures { Written W.Weight (model_of plan.now) issue out.old result out.new }
 {
     let issue = issue_for(plan, issue)?;

@@ -13,7 +13,7 @@ returns-then-any_long g c =
     let first : c.in_ok-issue.issue ≡ First = search rules in
     let some : has_long_code (model_of p).codes ≡ true =
     ap has_long_code (sym c.units.ensures) ∙ (sym (long_in c.units.result.now) ∙ (sym c.any_long.ensures ∙ c.if-any_long.true)) in
-    refusing g.W.Weight p c.args.number c.requires c.in_ok-issue.issue c.in_ok-issue.ensures first some
+    refusing g.W.Weight p c.args.number c.in_ok-issue.issue c.in_ok-issue.ensures first some
 
 pub returns : goal.returns
 returns g c =
@@ -22,8 +22,8 @@ returns g c =
       | else-eq-via-then-eq+else-any_long w ↦
           let none : has_long_code (model_of p).codes ≡ false =
           ap has_long_code (sym w.units.ensures) ∙ (sym (long_in w.units.result.now) ∙ (sym w.any_long.ensures ∙ w.if-any_long.false)) in
-          fitting g.W.Weight p c.args.number c.requires c.in_ok-issue.issue c.in_ok-issue.ensures (λ _. none)
+          fitting g.W.Weight p c.args.number c.in_ok-issue.issue c.in_ok-issue.ensures (λ _. none)
       | else-eq-via-else-eq w ↦
           let other : c.in_ok-issue.issue ≡ First → ⊥ = λ is. search rules in
-          fitting g.W.Weight p c.args.number c.requires c.in_ok-issue.issue c.in_ok-issue.ensures (λ is. absurd (other is))
+          fitting g.W.Weight p c.args.number c.in_ok-issue.issue c.in_ok-issue.ensures (λ is. absurd (other is))
     ]
