@@ -75,14 +75,14 @@ some_below P n below false none = (
 
 -- the apexes that a search of the groups looks for
 module _ {V : Type 0} (K : Kind V) (n : ℕ) (ls : List (Link V)) (es : List Entry) (best : V) (u v : ℕ) (r : Bool) where
-  pub triangle_decided :
+  pub triangle_decided : (m : ℕ) → m ≡ n →
       MatchBool r
-      ((k : ℕ) × (k < length (range_with_len 0 n)) × HoldsAt (Apex K n ls es u v) (range_with_len 0 n) k)
-      (AllWithin (λ w. Apex K n ls es u v w → ⊥) (range_with_len 0 n) 0 (length (range_with_len 0 n)))
+      ((k : ℕ) × (k < length (range_with_len 0 m)) × HoldsAt (Apex K n ls es u v) (range_with_len 0 m) k)
+      (AllWithin (λ w. Apex K n ls es u v w → ⊥) (range_with_len 0 m) 0 (length (range_with_len 0 m)))
       → Decides r (Meets K n ls es best u v Triangle)
-  triangle_decided h =
-      let below : (w : ℕ) → Apex K n ls es u v w → w < n = λ w is. stands_less n es w (third_apart n es u v w is.0).0 in
-      let (there, back) = some_below (Apex K n ls es u v) n below r h in
+  triangle_decided m all h =
+      let below : (w : ℕ) → Apex K n ls es u v w → w < m = λ w is. let lt = stands_less n es w (third_apart n es u v w is.0).0 in omega arith in
+      let (there, back) = some_below (Apex K n ls es u v) m below r h in
       (λ e. let (w, m) = there e in (w, m.0, m.1, m.2), λ m. back (m.0, (m.1, m.2, m.3)))
 
 pub neighbourhood_decided : {V : Type 0} (K : Kind V) (n : ℕ) (ls : List (Link V)) (es : List Entry) (best : V) (u v k : ℕ) (s : V) (r : Bool) → s ≡ gathered K n ls es u v k → k ≡ n → r ≡ K.at_most best s → Decides r (Meets K n ls es best u v Neighbourhood)

@@ -1,5 +1,5 @@
 // The tests of a pair of groups, and the pass over all pairs.
-ghost use Rattle.std.specs.Prelude.{◌≡◌, ◌+◌, ◌*◌, ◌<◌, ◌≤◌, ◌||◌, List, length, Decides, IfSome};
+ghost use Rattle.std.specs.Prelude.{◌≡◌, ◌+◌, ◌<◌, ◌≤◌, ◌||◌, List, Decides, IfSome};
 ghost use Rattle.weights.specs.Laws.{limit};
 ghost use Rattle.cuts.specs.declared.entry.Entry.{Entry};
 ghost use Rattle.cuts.specs.declared.ground.Ground.TheVariants.{Triangle, Neighbourhood};
@@ -7,11 +7,10 @@ ghost use Rattle.cuts.specs.Kinds.{kind_of, lesser as lighter};
 ghost use Rattle.cuts.specs.Links.{Link};
 ghost use Rattle.cuts.specs.Tests.{Meets};
 ghost use Rattle.passes.specs.Passed.{Standing, Apex, Judged, Passed};
-ghost use Rattle.tables.specs.Meaning.{Explains};
+ghost use Rattle.tables.specs.Meaning.{ExplainsIn};
 
 use cuts::ground::Ground;
-use tables::groups::Groups;
-use tables::table::entry;
+use tables::graph::Graph;
 use weights::weight::{Weight, add};
 
 // The lighter of two weights.
@@ -37,120 +36,85 @@ pub fn is_unbalanced<W: Weight>(joint: W, a: W, b: W) -> bool
 
 // Whether a group makes a triangle of a pair: it is a third one, and each degree is at most twice
 // what joins it to the other two.
-fn is_apex<W: Weight>(
-    table: &[W],
-    groups: &Groups,
-    n: usize,
-    u: usize,
-    v: usize,
-    apex: usize,
-) -> bool
-    requires units { groups.now.units ≡ n }
-    requires size { n * n ≤ length table.now }
-    requires u { u < n }
-    requires v { v < n }
-    requires apex { apex < n }
-    ensures { (ls : List (Link W.Weight.Value)) (es : List Entry) → Explains W.Weight n ls es table.now groups.now → Standing groups.now n u v → Decides result (Apex (kind_of W.Weight) n ls es u v apex) }
+fn is_apex<W: Weight>(graph: &Graph<W>, u: usize, v: usize, apex: usize) -> bool
+    requires u { u < graph.now.groups.now.units }
+    requires v { v < graph.now.groups.now.units }
+    requires apex { apex < graph.now.groups.now.units }
+    ensures { let n = graph.now.groups.now.units in (ls : List (Link W.Weight.Value)) (es : List Entry) → ExplainsIn W.Weight ls es graph.now → Standing graph.now.groups.now n u v → Decides result (Apex (kind_of W.Weight) n ls es u v apex) }
 {
-    let joint = entry(table, n, u, v);
-    groups.is_third(u, v, apex)
-        && within_twice(entry(table, n, u, u), add(joint, entry(table, n, u, apex)))
-        && within_twice(entry(table, n, v, v), add(joint, entry(table, n, v, apex)))
+    let joint = graph.entry(u, v);
+    graph.is_third(u, v, apex)
+        && within_twice(graph.entry(u, u), add(joint, graph.entry(u, apex)))
+        && within_twice(graph.entry(v, v), add(joint, graph.entry(v, apex)))
 }
 
 // Triangle: some third group makes one of the pair.
-pub fn is_triangle<W: Weight>(table: &[W], groups: &Groups, n: usize, u: usize, v: usize) -> bool
-    requires units { groups.now.units ≡ n }
-    requires size { n * n ≤ length table.now }
-    requires u { u < n }
-    requires v { v < n }
-    ensures { (ls : List (Link W.Weight.Value)) (es : List Entry) → Explains W.Weight n ls es table.now groups.now → Standing groups.now n u v → (best : W.Weight.Value) → Decides result (Meets (kind_of W.Weight) n ls es best u v Triangle) }
+pub fn is_triangle<W: Weight>(graph: &Graph<W>, u: usize, v: usize) -> bool
+    requires u { u < graph.now.groups.now.units }
+    requires v { v < graph.now.groups.now.units }
+    ensures { let n = graph.now.groups.now.units in (ls : List (Link W.Weight.Value)) (es : List Entry) → ExplainsIn W.Weight ls es graph.now → Standing graph.now.groups.now n u v → (best : W.Weight.Value) → Decides result (Meets (kind_of W.Weight) n ls es best u v Triangle) }
 {
-    (0..n).any(|apex| is_apex(table, groups, n, u, v, apex))
+    (0..graph.units()).any(|apex| is_apex(graph, u, v, apex))
 }
 
 // Neighbourhood: the joint weight, and for each third group the lesser of what joins it to the two, come to best.
-pub fn is_neighbourhood<W: Weight>(
-    table: &[W],
-    groups: &Groups,
-    n: usize,
-    best: W,
-    u: usize,
-    v: usize,
-) -> bool
-    requires units { groups.now.units ≡ n }
-    requires size { n * n ≤ length table.now }
-    requires u { u < n }
-    requires v { v < n }
-    ensures { (ls : List (Link W.Weight.Value)) (es : List Entry) → Explains W.Weight n ls es table.now groups.now → Standing groups.now n u v → Decides result (Meets (kind_of W.Weight) n ls es (W.Weight.value best) u v Neighbourhood) }
+pub fn is_neighbourhood<W: Weight>(graph: &Graph<W>, best: W, u: usize, v: usize) -> bool
+    requires u { u < graph.now.groups.now.units }
+    requires v { v < graph.now.groups.now.units }
+    ensures { let n = graph.now.groups.now.units in (ls : List (Link W.Weight.Value)) (es : List Entry) → ExplainsIn W.Weight ls es graph.now → Standing graph.now.groups.now n u v → Decides result (Meets (kind_of W.Weight) n ls es (W.Weight.value best) u v Neighbourhood) }
 {
-    let mut sum = entry(table, n, u, v);
+    let mut sum = graph.entry(u, v);
     // The groups' numbers are what is gone over, here and below: they are rows and columns of the table.
-    for w in 0..n {
-        if groups.is_third(u, v, w) {
-            sum = add(sum, lesser(entry(table, n, u, w), entry(table, n, v, w)));
+    for w in 0..graph.units() {
+        if graph.is_third(u, v, w) {
+            sum = add(sum, lesser(graph.entry(u, w), graph.entry(v, w)));
         }
     }
     best.at_most(sum)
 }
 
 // The lowest ground on which the pair may be merged, if any.
-pub fn ground_of<W: Weight>(
-    table: &[W],
-    groups: &Groups,
-    n: usize,
-    best: W,
-    u: usize,
-    v: usize,
-) -> Option<Ground>
-    requires units { groups.now.units ≡ n }
-    requires size { n * n ≤ length table.now }
-    requires u { u < n }
-    requires v { v < n }
-    ensures { (ls : List (Link W.Weight.Value)) (es : List Entry) → Explains W.Weight n ls es table.now groups.now → Standing groups.now n u v → Judged (kind_of W.Weight) n ls es (W.Weight.value best) u v result }
+pub fn ground_of<W: Weight>(graph: &Graph<W>, best: W, u: usize, v: usize) -> Option<Ground>
+    requires u { u < graph.now.groups.now.units }
+    requires v { v < graph.now.groups.now.units }
+    ensures { let n = graph.now.groups.now.units in (ls : List (Link W.Weight.Value)) (es : List Entry) → ExplainsIn W.Weight ls es graph.now → Standing graph.now.groups.now n u v → Judged (kind_of W.Weight) n ls es (W.Weight.value best) u v result }
 {
-    let joint = entry(table, n, u, v);
+    let joint = graph.entry(u, v);
     if best.at_most(joint) {
         return Some(Ground::Heavy);
     }
-    if is_unbalanced(joint, entry(table, n, u, u), entry(table, n, v, v)) {
+    if is_unbalanced(joint, graph.entry(u, u), graph.entry(v, v)) {
         return Some(Ground::Unbalanced);
     }
-    if is_triangle(table, groups, n, u, v) {
+    if is_triangle(graph, u, v) {
         return Some(Ground::Triangle);
     }
-    if is_neighbourhood(table, groups, n, best, u, v) {
+    if is_neighbourhood(graph, best, u, v) {
         return Some(Ground::Neighbourhood);
     }
     None
 }
 
 // The first pair, in order of the lower group and then the higher, that meets a test, with its lowest ground.
-pub fn first_pair<W: Weight>(
-    table: &[W],
-    groups: &Groups,
-    n: usize,
-    best: W,
-) -> Option<(usize, usize, Ground)>
-    requires units { groups.now.units ≡ n }
-    requires size { n * n ≤ length table.now }
-    ensures order { IfSome result (λ p. (p.0 < p.1) × (p.1 < n)) }
-    ensures passed { (ls : List (Link W.Weight.Value)) (es : List Entry) → Explains W.Weight n ls es table.now groups.now → Passed (kind_of W.Weight) n ls es (W.Weight.value best) result }
+pub fn first_pair<W: Weight>(graph: &Graph<W>, best: W) -> Option<(usize, usize, Ground)>
+    ensures order { IfSome result (λ p. (p.0 < p.1) × (p.1 < graph.now.groups.now.units)) }
+    ensures passed { let n = graph.now.groups.now.units in (ls : List (Link W.Weight.Value)) (es : List Entry) → ExplainsIn W.Weight ls es graph.now → Passed (kind_of W.Weight) n ls es (W.Weight.value best) result }
 {
     // Two loops that one break leaves: a closure could not leave both.
     'pass: {
+        let n = graph.units();
         for u in 0..n {
-            if !groups.stands(u) {
+            if !graph.stands(u) {
                 continue;
             }
             for v in u + 1..n {
-                if !groups.stands(v) {
+                if !graph.stands(v) {
                     continue;
                 }
-                if entry(table, n, u, v).at_most(W::nothing()) {
+                if graph.entry(u, v).at_most(W::nothing()) {
                     continue;
                 }
-                if let Some(ground) = ground_of(table, groups, n, best, u, v) {
+                if let Some(ground) = ground_of(graph, best, u, v) {
                     break 'pass Some((u, v, ground));
                 }
             }

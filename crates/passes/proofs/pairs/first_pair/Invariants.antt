@@ -10,10 +10,10 @@ use Rattle.passes.proofs.pairs.first_pair.Given as goal
 abbrev pub invariant-loop-u : goal.invariant-loop-u
 invariant-loop-u g l =
     let m = g.W.Weight in
-    (ls : List (Link m.Value)) (es : List Entry) → Explains m l.n ls es l.table l.groups → (a : ℕ) → a < l.u → (b : ℕ) → PassedOver (kind_of m) l.n ls es (m.value l.best) a b
+    (ls : List (Link m.Value)) (es : List Entry) → Explains m l.graph.groups.now.units ls es l.graph.weights.now l.graph.groups.now → (a : ℕ) → a < l.u → (b : ℕ) → PassedOver (kind_of m) l.graph.groups.now.units ls es (m.value l.best) a b
 
 -- no pair of the lower group u with a higher one so far meets a test
 abbrev pub invariant-loop-v : goal.invariant-loop-v
 invariant-loop-v g l =
     let m = g.W.Weight in
-    (ls : List (Link m.Value)) (es : List Entry) → Explains m l.n ls es l.table l.groups → (b : ℕ) → b < l.v → PassedOver (kind_of m) l.n ls es (m.value l.best) l.u b
+    (ls : List (Link m.Value)) (es : List Entry) → Explains m l.graph.groups.now.units ls es l.graph.weights.now l.graph.groups.now → (b : ℕ) → b < l.v → PassedOver (kind_of m) l.graph.groups.now.units ls es (m.value l.best) l.u b

@@ -11,4 +11,4 @@ use Rattle.passes.proofs.pairs.is_neighbourhood.Given as goal
 abbrev pub invariant-loop-w : goal.invariant-loop-w
 invariant-loop-w g l =
     let m = g.W.Weight in
-    (ls : List (Link m.Value)) (es : List Entry) → Explains m l.n ls es l.table l.groups → Standing l.groups l.n l.u l.v → m.value l.sum ≡ gathered (kind_of m) l.n ls es l.u l.v l.w
+    (ls : List (Link m.Value)) (es : List Entry) → Explains m l.graph.groups.now.units ls es l.graph.weights.now l.graph.groups.now → Standing l.graph.groups.now l.graph.groups.now.units l.u l.v → m.value l.sum ≡ gathered (kind_of m) l.graph.groups.now.units ls es l.u l.v l.w

@@ -7,7 +7,7 @@ use Rattle.passes.proofs.pairs.is_triangle.Goals as goal
 
 pub returns : goal.returns
 returns g c = λ ls es ex pair best.
-    let n = c.args.n in
+    let n = c.args.graph.now.groups.now.units in
     let apex = Apex (kind_of g.W.Weight) n ls es c.args.u c.args.v in
-    triangle_decided (kind_of g.W.Weight) n ls es best c.args.u c.args.v c.any.result
-    (cases_from_any _ _ _ apex (λ w. apex w → ⊥) c.any.ensures.ran (YieldsList-from_range 0 n n refl (omega arith)) (λ x q k. search rules) (λ x q k. search rules))
+    triangle_decided (kind_of g.W.Weight) n ls es best c.args.u c.args.v c.any.result _ c.units.ensures
+    (cases_from_any _ _ _ apex (λ w. apex w → ⊥) c.any.ensures.ran (YieldsList-from_range 0 _ _ refl (omega arith)) (λ x q k. search rules) (λ x q k. search rules))
