@@ -11,7 +11,7 @@ use Rattle.plans.specs.declared.plan.Plan.{Plan}
 use Rattle.plans.specs.declared.plan.Unit.{Unit as Record}
 use Rattle.plans.specs.Calls.{check}
 use Rattle.plans.specs.Model.{Model, model_of, code_of, borne_by_other}
-use Rattle.plans.specs.Sound.{Joins, Sound}
+use Rattle.plans.specs.Sound.{Joins}
 use Rattle.sheets.specs.declared.issue.Issue.{Issue}
 use Rattle.sheets.specs.declared.issue.Issue.TheVariants.{First, Second}
 use Rattle.sheets.specs.Fields.{Field, code, bytes_at, code_fields, code_place, issue_in, link_place, links_in, text_in, text_of, texts_in, units_in, place_of, part_of}
@@ -136,9 +136,10 @@ module _ {W : Type 0} (g : Ghosts W) (bs : List ℕ) where
       (codes_bytes u clear ∙ ap (flat_map (code_field i)) (sym texts))
       (ap (λ p. bytes_at bs p ls) first ∙ loaded.bytes)))))
 
--- a plan that is sound is within the rules
-pub valid : {W : Type 0} (g : Ghosts W) (i : Issue) (p : Plan W) → Sound g p → AllByRecursion (λ text. length text ≤ size_of_code i) (model_of p).codes → Valid g i (model_of p)
-valid g i p s fit =
+-- every plan whose codes have room is within the rules
+pub valid : {W : Type 0} {g : Ghosts W} (i : Issue) (p : Plan W g) → AllByRecursion (λ text. length text ≤ size_of_code i) (model_of p).codes → Valid g i (model_of p)
+valid {g = g} i p fit =
+    let s = p.sound in
     let us = take p.unit_count p.units in
     let n : length (model_of p).codes ≡ p.unit_count = length-map us code_of ∙ length-take-le p.unit_count p.units (let a = s.few in let b = s.table in omega arith) in
     let m : length (model_of p).links ≡ p.link_count = length-take-le p.link_count p.links.now (let a = s.short in let b = s.memory in omega arith) in

@@ -8,7 +8,7 @@ use Rattle.plans.specs.declared.plan.Link.{Link}
 use Rattle.plans.specs.declared.plan.Plan.{Plan}
 use Rattle.plans.specs.Calls.{most_total}
 use Rattle.plans.specs.Model.{Model, model_of, amount_of, total_of, linked}
-use Rattle.plans.specs.Sound.{Joins, Sound}
+use Rattle.plans.specs.Sound.{Joins}
 use Rattle.plans.proofs.Totals.{total_append}
 use Rattle.sheets.specs.Fields.{Field, bytes_at, link_fields, link_place, links_in, through, total_in, units_in}
 use Rattle.sheets.specs.Faults.{fault_of, Faultless}
@@ -20,11 +20,10 @@ use Rattle.readers.specs.Steps.{Stands}
 use Rattle.readers.proofs.Pieces.{bytes_join}
 
 -- the first k links were added
-pub record Filling {W : Type 0} (g : Ghosts W) (bs : List ℕ) (k : ℕ) (c : Cursor) (total : ℕ) (before : Model W) (p : Plan W) : Type 0 where
+pub record Filling {W : Type 0} (g : Ghosts W) (bs : List ℕ) (k : ℕ) (c : Cursor) (total : ℕ) (before : Model W) (p : Plan W g) : Type 0 where
   pub stands : Stands bs (link_place g bs k) c
   pub sum : total ≡ total_in g bs k
   pub limited : total ≤ most_total
-  pub sound : Sound g p
   pub codes : (model_of p).codes ≡ before.codes
   pub count : length (model_of p).links ≡ k
   pub sums : total_of g (model_of p).links ≡ total
@@ -51,27 +50,26 @@ module _ {W : Type 0} (g : Ghosts W) (bs : List ℕ) where
       (λ l. let s : k ≡ n = omega arith in rw s (all_right (λ x. fault_of g bs x ≡ None) (through f n) (f n) h))
       (cases_lt k n)
 
-  pub filling_none : (c : Cursor) (p : Plan W) → Stands bs (link_place g bs 0) c → Sound g p → (model_of p).links ≡ [] → Filling g bs 0 c 0 (model_of p) p
-  filling_none c p s h e = record {
+  pub filling_none : (c : Cursor) (p : Plan W g) → Stands bs (link_place g bs 0) c → (model_of p).links ≡ [] → Filling g bs 0 c 0 (model_of p) p
+  filling_none c p s e = record {
     stands = s;
     sum = refl;
     limited = omega arith;
-    sound = h;
     codes = refl;
     count = ap length e;
     sums = ap (total_of g) e;
     bytes = ap (bytes_at bs (link_place g bs 0)) (zero-mul (link_size g)) ∙ sym (ap (flat_map (link_bytes g)) e);
   }
 
-  module _ (k : ℕ) (c a : Cursor) (total : ℕ) (before : Model W) (p : Plan W) (l : Link W) (was : Filling g bs k c total before p) (t : Reads g bs (link_fields g bs k) (Ok l) a (link_place g bs (k + 1)) (Linked g bs k)) where
+  module _ (k : ℕ) (c a : Cursor) (total : ℕ) (before : Model W) (p : Plan W g) (l : Link W) (was : Filling g bs k c total before p) (t : Reads g bs (link_fields g bs k) (Ok l) a (link_place g bs (k + 1)) (Linked g bs k)) where
     pub can_join : length before.codes ≡ units_in bs → Joins g (length (model_of p).codes) l
     can_join n = subst (λ x. Joins g x l) (sym (ap length was.codes ∙ n)) t.taken.1.joins
 
     pub has_room : total_of g (model_of p).links + amount_of g l.weight ≤ most_total
     has_room = let h = t.taken.1.limited in let s = was.sums in let e = was.sum in omega arith
 
-    pub filling_more : (q : Plan W) (amount : ℕ) → Sound g q → model_of q ≡ linked l (model_of p) → amount ≡ amount_of g l.weight → Filling g bs (k + 1) a (total + amount) before q
-    filling_more q amount h e is =
+    pub filling_more : (q : Plan W g) (amount : ℕ) → model_of q ≡ linked l (model_of p) → amount ≡ amount_of g l.weight → Filling g bs (k + 1) a (total + amount) before q
+    filling_more q amount e is =
         let told = t.taken.1 in
         let ls = (model_of p).links in
         let s = link_size g in
@@ -83,7 +81,6 @@ module _ {W : Type 0} (g : Ghosts W) (bs : List ℕ) where
           stands = t.moved;
           sum = sum ∙ (ap (λ n. total_in g bs k + n) told.amount ∙ sym (ap (total_in g bs) (add-one k)));
           limited = let x = told.limited in omega arith;
-          sound = h;
           codes = ap (λ m. m.codes) e ∙ was.codes;
           count = ap length links ∙ (length_push ls l ∙ ap (λ n. n + 1) was.count);
           sums = let x = ap (total_of g) links in let y = total_append g ls (l ∷ []) in let z = was.sums in omega arith;
@@ -95,5 +92,5 @@ module _ {W : Type 0} (g : Ghosts W) (bs : List ℕ) where
               ∙ (flat_map_more (link_bytes g) [] ls l ∙ sym (ap (flat_map (link_bytes g)) links))))));
         }
 
-  pub filled : (c : Cursor) (total : ℕ) (before : Model W) (p : Plan W) → Filling g bs (links_in bs) c total before p → Loaded g bs before (model_of p)
+  pub filled : (c : Cursor) (total : ℕ) (before : Model W) (p : Plan W g) → Filling g bs (links_in bs) c total before p → Loaded g bs before (model_of p)
   filled c total before p h = record { codes = h.codes; count = h.count; bytes = h.bytes }

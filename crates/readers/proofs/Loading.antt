@@ -16,7 +16,7 @@ use Rattle.plans.proofs.Verdicts.{passes}
 use Rattle.readers.specs.Loads.{Apart}
 
 -- what is accepted is not refused, and does what the call says
-module _ {W X : Type 0} (v : Option Refusal) (x : X) (next : Model W) (p : Plan W) (q : Plan W) (r : Result X Refusal) (a : v ≡ None) (h : Called v x next p r q) where
+module _ {W X : Type 0} {g : Ghosts W} (v : Option Refusal) (x : X) (next : Model W) (p q : Plan W g) (r : Result X Refusal) (a : v ≡ None) (h : Called v x next p r q) where
   pub goes : IsOk r
   goes = subst IsOk (sym (h.reply ∙ ap (λ o. reply_of o x) a)) refl
 

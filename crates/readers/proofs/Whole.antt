@@ -42,7 +42,7 @@ module _ {W : Type 0} (g : Ghosts W) (bs : List ℕ) where
 
 -- the two outcomes of reading
 module _ {W : Type 0} (g : Ghosts W) (bs : List ℕ) (exact : Exact g.arity g.of g.nth) (bounded : (x : W) → g.size (g.value x) ≤ limit) (narrow : (x : W) (j : ℕ) → g.nth (g.value x) j < 2 ^ 32) (told : (x y : W) → g.value x ≡ g.value y → x ≡ y) where
-  pub refuses : (p : Plan W) (r : Result (Unit {0}) Fault) (d e : Fault) → r ≡ Err d → d ≡ e → FirstFault g bs e → Outcome g bs p r p
+  pub refuses : (p : Plan W g) (r : Result (Unit {0}) Fault) (d e : Fault) → r ≡ Err d → d ≡ e → FirstFault g bs e → Outcome g bs p r p
   refuses p r d e is same h =
       let up : Outcome g bs p (Err e) p = record {
         fault = (h, refl);
@@ -51,7 +51,7 @@ module _ {W : Type 0} (g : Ghosts W) (bs : List ℕ) (exact : Exact g.arity g.of
       } in
       subst (λ x. Outcome g bs p x p) (sym (is ∙ ap Err same)) up
 
-  pub accepts : (p q : Plan W) → Right g bs → Valid g (issue_in bs) (model_of q) → bs ≡ sheet_of g (issue_in bs) (model_of q) → Outcome g bs p (Ok tt) q
+  pub accepts : (p q : Plan W g) → Right g bs → Valid g (issue_in bs) (model_of q) → bs ≡ sheet_of g (issue_in bs) (model_of q) → Outcome g bs p (Ok tt) q
   accepts p q right valid is = record {
     fault = tt;
     sheet = (right, valid, is);

@@ -9,7 +9,7 @@ use Rattle.sheets.specs.Fields.{issue_in}
 use Rattle.sheets.specs.Faults.{FirstFault, Right}
 use Rattle.sheets.specs.Format.{Valid, sheet_of}
 
-pub record Outcome {W : Type 0} (g : Ghosts W) (bs : List ℕ) (before : Plan W) (r : Result (Unit {0}) Fault) (after : Plan W) : Type 0 where
+pub record Outcome {W : Type 0} (g : Ghosts W) (bs : List ℕ) (before : Plan W g) (r : Result (Unit {0}) Fault) (after : Plan W g) : Type 0 where
   -- a fault is the first in the order of the bytes, and the plan and its lent memory are exactly as before
   pub fault : IfErr r (λ e. FirstFault g bs e × (after ≡ before))
   -- otherwise the sheet is right, and it is that of the plan, in the issue that it names

@@ -1,6 +1,5 @@
 // Reads a whole sheet into a plan.
 ghost use Rattle.std.specs.Prelude.{◌≡◌, ℕ, ◌<◌, ◌≤◌, [], ◌∷◌, ◌++◌, length};
-ghost use Rattle.plans.specs.Sound.{Sound};
 ghost use Rattle.sheets.specs.Fields.{code_place, end, link_fields, link_place, links_in, through, units_in};
 ghost use Rattle.readers.specs.Outcome.{Outcome};
 ghost use Rattle.readers.specs.Records.{Reads};
@@ -32,9 +31,7 @@ fn check_links<W: Weight>(cursor: &mut Cursor, head: Head) -> Result<(), Fault>
 
 // Replaces the whole plan by that of the sheet, or tells the first fault in the order of the bytes and changes nothing.
 pub fn read<W: Weight>(bytes: &[u8], plan: &mut Plan<W>) -> Result<(), Fault>
-    requires { Sound W.Weight plan.old }
-    ensures sound { Sound W.Weight plan.new }
-    ensures read { Outcome W.Weight bytes.now plan.old result plan.new }
+    ensures { Outcome W.Weight bytes.now plan.old result plan.new }
 {
     let mut cursor = Cursor::new(bytes);
     let head = read_head::<W>(&mut cursor)?;

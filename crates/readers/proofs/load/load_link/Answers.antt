@@ -4,8 +4,8 @@ use Rattle.plans.specs.Calls.{link_verdict, mark_verdict}
 use Rattle.readers.proofs.Loading.{does, answers, served, link_fine, mark_fine, out_of_service}
 use Rattle.readers.proofs.load.load_link.Goals as goal
 
-pub returns-then-not-link-clause-model : goal.returns-then-not-link-clause-model
-returns-then-not-link-clause-model g c =
+pub returns-then-not-link : goal.returns-then-not-link
+returns-then-not-link g c =
     let w = g.W.Weight in
     let m = model_of c.args.plan.now in
     let l = c.args.link in

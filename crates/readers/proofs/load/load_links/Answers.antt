@@ -12,7 +12,7 @@ loop-k-init g c =
     let w = g.W.Weight in
     let bs = c.args.cursor.now.bytes.now in
     let s : Stands bs (link_place w bs 0) c.args.cursor.now = record { bytes = refl; place = c.requires.place ∙ first_link w bs } in
-    filling_none w bs c.args.cursor.now c.args.plan.now s c.requires.sound c.requires.none
+    filling_none w bs c.args.cursor.now c.args.plan.now s c.requires.none
 
 pub unwrap-link-requires : goal.unwrap-link-requires
 unwrap-link-requires g c =
@@ -34,7 +34,6 @@ load_link-requires g c =
     let was = c.loop-k.invariant in
     let v = link_here w bs k c.args.head.units c.loop-k.total c.loop-k.cursor a (Ok l) was.stands c.requires.units was.sum (rw c.unwrap-link.ensures at c.read_link.ensures.reads) in
     record {
-      sound = c.loop-k.invariant.sound;
       joins = can_join w bs k c.loop-k.cursor a c.loop-k.total (model_of c.args.plan.now) c.loop-k.plan l c.loop-k.invariant v c.requires.codes;
       room = omega (arith, c.loop-k.invariant.count, c.requires.short);
       limit = has_room w bs k c.loop-k.cursor a c.loop-k.total (model_of c.args.plan.now) c.loop-k.plan l c.loop-k.invariant v;
@@ -49,7 +48,7 @@ loop-k-preserved g c =
     let a = c.read_link.new.cursor in
     let was = c.loop-k.invariant in
     let v = link_here w bs k c.args.head.units c.loop-k.total c.loop-k.cursor a (Ok l) was.stands c.requires.units was.sum (rw c.unwrap-link.ensures at c.read_link.ensures.reads) in
-    filling_more w bs k c.loop-k.cursor a c.loop-k.total (model_of c.args.plan.now) c.loop-k.plan l c.loop-k.invariant v c.load_link.new.plan c.amount-total.result c.load_link.ensures.sound c.load_link.ensures.model c.amount-total.ensures
+    filling_more w bs k c.loop-k.cursor a c.loop-k.total (model_of c.args.plan.now) c.loop-k.plan l c.loop-k.invariant v c.load_link.new.plan c.amount-total.result c.load_link.ensures c.amount-total.ensures
 
 pub returns : goal.returns
 returns g c =
@@ -57,4 +56,4 @@ returns g c =
     let bs = c.args.cursor.now.bytes.now in
     let e : c.loop-k.k ≡ links_in bs = omega (arith, c.requires.links) in
     let v = subst (λ n. Filling w bs n c.loop-k.cursor c.loop-k.total (model_of c.args.plan.now) c.loop-k.plan) e c.loop-k.invariant in
-    record { sound = v.sound; loaded = filled w bs c.loop-k.cursor c.loop-k.total (model_of c.args.plan.now) c.loop-k.plan v }
+    filled w bs c.loop-k.cursor c.loop-k.total (model_of c.args.plan.now) c.loop-k.plan v

@@ -11,7 +11,7 @@ unwrap-requires g c =
     let k = c.loop-unit.unit-index in
     let text = c.text.result.now in
     let is = c.text.ensures.value ∙ ap code_of c.unit-item.is in
-    let fine = unit_fine m us k c.unit-item.result text c.loop-unit.invariant.1 c.loop-unit-test.true is c.requires.few c.requires.apart c.text.ensures.code in
+    let fine = unit_fine m us k c.unit-item.result text c.loop-unit.invariant c.loop-unit-test.true is c.requires.few c.requires.apart c.text.ensures.code in
     goes (enter_verdict m text) (length m.codes) (entered text m) c.loop-unit.plan c.enter.new.self c.enter.result fine c.enter.ensures.called
 
 pub loop-unit-preserved : goal.loop-unit-preserved
@@ -22,8 +22,6 @@ loop-unit-preserved g c =
     let text = c.text.result.now in
     let u = c.unit-item.result in
     let is = c.text.ensures.value ∙ ap code_of c.unit-item.is in
-    let fine = unit_fine m us k u text c.loop-unit.invariant.1 c.loop-unit-test.true is c.requires.few c.requires.apart c.text.ensures.code in (
-      c.enter.ensures.sound,
-      does (enter_verdict m text) (length m.codes) (entered text m) c.loop-unit.plan c.enter.new.self c.enter.result fine c.enter.ensures.called
-          ∙ unit_more m us k u text c.loop-unit.invariant.1 c.loop-unit-test.true is,
-    )
+    let fine = unit_fine m us k u text c.loop-unit.invariant c.loop-unit-test.true is c.requires.few c.requires.apart c.text.ensures.code in
+    does (enter_verdict m text) (length m.codes) (entered text m) c.loop-unit.plan c.enter.new.self c.enter.result fine c.enter.ensures.called
+    ∙ unit_more m us k u text c.loop-unit.invariant c.loop-unit-test.true is
