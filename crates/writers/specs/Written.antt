@@ -1,17 +1,13 @@
 -- What write is refused with, and what stands in the lent bytes after it.
-use Rattle.std.specs.Prelude.{◌≡◌, ℕ, Bool, false, cond, not, ◌&&◌, ◌||◌, List, [], ◌∷◌, length, take, drop, IfOk, IfErr, Some, Option, Result, ◌==◌, nat_le}
+use Rattle.std.specs.Prelude.{◌≡◌, ℕ, Bool, false, not, ◌&&◌, ◌||◌, List, [], ◌∷◌, length, take, drop, IfOk, IfErr, Some, Option, Result, ◌==◌, nat_le}
 use Rattle.refusals.specs.declared.Refusal.{Refusal}
 use Rattle.refusals.specs.declared.Refusal.TheVariants.{UnknownIssue, LongCode, ShortMemory}
 use Rattle.weights.specs.declared.weight.Weight.{Ghosts}
 use Rattle.plans.specs.Calls.{check, accepted, reply_of}
 use Rattle.plans.specs.Model.{Model}
 use Rattle.sheets.specs.declared.issue.Issue.{Issue}
-use Rattle.sheets.specs.declared.issue.Issue.TheVariants.{First, Second}
+use Rattle.sheets.specs.Fields.{issue_from}
 use Rattle.sheets.specs.Format.{sheet_of, Valid}
-
--- the issue with a number; any other number than 1 and 2 is refused
-abbrev pub issue_with : ℕ → Issue
-issue_with number = cond (number == 1) First Second
 
 -- some code has seven characters
 abbrev pub has_long_code : List (List ℕ) → Bool
@@ -21,7 +17,7 @@ has_long_code (text ∷ texts) = length text == 7 || has_long_code texts
 module _ {W : Type 0} (g : Ghosts W) (m : Model W) (number : ℕ) where
   -- the sheet of the plan in the issue with that number
   abbrev pub sheet_in : List ℕ
-  sheet_in = sheet_of g (issue_with number) m
+  sheet_in = sheet_of g (issue_from number) m
 
   -- write into so many bytes: 2, 16, 17
   abbrev pub write_verdict : ℕ → Option Refusal
@@ -37,7 +33,7 @@ module _ {W : Type 0} (g : Ghosts W) (m : Model W) (number : ℕ) where
 
   -- the plan can stand in a sheet of the issue with the number: only the room is left to check
   pub record Fitting (issue : Issue) : Type 0 where
-    pub named : issue ≡ issue_with number
+    pub named : issue ≡ issue_from number
     pub valid : Valid g issue m
     pub left : (room : ℕ) → write_verdict room ≡ check (nat_le (length sheet_in) room) ShortMemory accepted
 
@@ -51,4 +47,4 @@ module _ {W : Type 0} (g : Ghosts W) (m : Model W) (number : ℕ) where
     -- read, then write in the same issue: whatever bytes are the plan's sheet are the bytes written
     pub again : IfOk r (λ n. (bytes : List ℕ) → bytes ≡ sheet_in → take n after ≡ bytes)
     -- write, then read: what is written is the sheet of a plan within the rules, so it reads back as that plan
-    pub valid : IfOk r (λ _. Valid g (issue_with number) m)
+    pub valid : IfOk r (λ _. Valid g (issue_from number) m)

@@ -10,6 +10,7 @@ ghost use Rattle.writers.specs.Written.{Fitting, Refusing, Written, has_long_cod
 use crate::records::{put_codes, put_head, put_links};
 use plans::plan::{Plan, Unit};
 use refusals::Refusal;
+use refusals::memory::enough;
 use sheets::issue::Issue;
 use weights::weight::Weight;
 
@@ -57,12 +58,11 @@ fn put_sheet<W: Weight>(out: &mut [u8], plan: &Plan<W>, issue: Issue) -> usize
 }
 
 // Writes the plan's sheet in the issue with a number, and answers its length; the bytes beyond it stay: 2, 16, 17.
+// A number that is no issue is refused (2), so the issue is told by its number and not as an `Issue`.
 pub fn write<W: Weight>(plan: &Plan<W>, issue: u16, out: &mut [u8]) -> Result<usize, Refusal>
     ensures { Written W.Weight (model_of plan.now) issue out.old result out.new }
 {
     let issue = issue_for(plan, issue)?;
-    if out.len() < sheet_size(plan, issue) {
-        return Err(Refusal::ShortMemory);
-    }
+    enough(out, sheet_size(plan, issue))?;
     Ok(put_sheet(out, plan, issue))
 }
