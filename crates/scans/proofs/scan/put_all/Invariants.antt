@@ -8,7 +8,7 @@ invariant-loop-g g l =
     let m = g.W.Weight in
     record {
       sound : q.sound l.queue;
-      waits : Waits m.value (q.key l.queue) (present l.g l.groups) (λ _. m.zero);
-      marked : AllMarked l.n (q.key l.queue) l.waiting;
-      marks : Marks l.initial.waiting (λ _. false) → Marks l.waiting (present l.g l.groups);
+      waits : Waits m.value (q.key l.queue) (present l.g l.graph.groups.now) (λ _. m.zero);
+      marked : AllMarked l.graph.groups.now.units (q.key l.queue) l.waiting;
+      marks : Marks l.initial.waiting (λ _. false) → Marks l.waiting (present l.g l.graph.groups.now);
     }

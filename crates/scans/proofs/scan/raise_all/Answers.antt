@@ -9,7 +9,7 @@ loop-w-preserved-then-not-waiting-w g c = record {
   sound = c.loop-w.invariant.sound;
   units = c.loop-w.invariant.units;
   marked = c.loop-w.invariant.marked;
-  raising = λ ls es taken turn. raise_gone g.met.W.Weight.laws turn c.loop-w-test.true (c.loop-w.invariant.raising ls es taken turn) c.if-not-waiting-w.true;
+  raising = λ ls es taken turn. raise_gone g.met.W.Weight.laws turn (omega (arith, c.units-w-end.ensures)) (c.loop-w.invariant.raising ls es taken turn) c.if-not-waiting-w.true;
 }
 
 pub loop-w-preserved-in_default : goal.loop-w-preserved-in_default
@@ -17,7 +17,7 @@ loop-w-preserved-in_default g c = record {
   sound = c.loop-w.invariant.sound;
   units = c.loop-w.invariant.units;
   marked = c.loop-w.invariant.marked;
-  raising = λ ls es taken turn. raise_light g.met.W.Weight.laws turn c.loop-w-test.true (c.loop-w.invariant.raising ls es taken turn) c.if-not-waiting-w.false c.in_default.ensures;
+  raising = λ ls es taken turn. raise_light g.met.W.Weight.laws turn (omega (arith, c.units-w-end.ensures)) (c.loop-w.invariant.raising ls es taken turn) c.if-not-waiting-w.false c.in_default.ensures;
 }
 
 pub loop-w-preserved : goal.loop-w-preserved
@@ -34,10 +34,10 @@ loop-w-preserved g c =
       raising = λ ls es taken turn.
           let raising = was.raising ls es taken turn in
           elim c.if-raised_to.branch [
-            | then-raised_to w ↦ raise_found g.met.W.Weight.laws turn c.loop-w-test.true raising c.if-not-waiting-w.false c.in-Some.joint c.in-Some.ensures answer rise (sym reached ∙ w.if-raised_to.true) w.note.ensures.notes _ w.found-is
-            | else-raised_to w ↦ raise_short g.met.W.Weight.laws turn c.loop-w-test.true raising c.if-not-waiting-w.false c.in-Some.joint c.in-Some.ensures answer rise (sym reached ∙ w.if-raised_to.false) _ w.found-is
+            | then-raised_to w ↦ raise_found g.met.W.Weight.laws turn (omega (arith, c.units-w-end.ensures)) raising c.if-not-waiting-w.false c.in-Some.joint c.in-Some.ensures answer rise (sym reached ∙ w.if-raised_to.true) w.note.ensures.notes _ w.found-is
+            | else-raised_to w ↦ raise_short g.met.W.Weight.laws turn (omega (arith, c.units-w-end.ensures)) raising c.if-not-waiting-w.false c.in-Some.joint c.in-Some.ensures answer rise (sym reached ∙ w.if-raised_to.false) _ w.found-is
           ];
     }
 
 pub returns-clause-notes : goal.returns-clause-notes
-returns-clause-notes g c ls es taken turn = notes_every g.met.W.Weight.laws turn (omega arith) (c.loop-w.invariant.raising ls es taken turn)
+returns-clause-notes g c ls es taken turn = notes_every g.met.W.Weight.laws turn (omega (arith, c.units-w-end.ensures)) (c.loop-w.invariant.raising ls es taken turn)

@@ -11,8 +11,8 @@ invariant-loop-w g l =
     let m = g.W.Weight in
     record {
       sound : q.sound l.queue;
-      units : l.found.classes.units ≡ l.n;
-      marked : AllMarked l.n (q.key l.queue) l.waiting;
-      raising : (ls : List (Link m.Value)) (es : List Entry) (taken : List ℕ) → Turn m l.n ls es taken l.v l.table (q.key l.initial.queue) l.waiting
-          → Raising m l.n ls es taken l.v (m.value l.best) l.initial.found (q.key l.queue) l.found l.w;
+      units : l.found.classes.units ≡ l.graph.groups.now.units;
+      marked : AllMarked l.graph.groups.now.units (q.key l.queue) l.waiting;
+      raising : (ls : List (Link m.Value)) (es : List Entry) (taken : List ℕ) → Turn m l.graph.groups.now.units ls es taken l.v l.graph.weights.now (q.key l.initial.queue) l.waiting
+          → Raising m l.graph.groups.now.units ls es taken l.v (m.value l.best) l.initial.found (q.key l.queue) l.found l.w;
     }

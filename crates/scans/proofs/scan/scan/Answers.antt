@@ -7,10 +7,10 @@ use Rattle.scans.proofs.scan.scan.Goals as goal
 pub loop-v-init : goal.loop-v-init
 loop-v-init g c = record {
   sound = c.put_all.ensures.sound;
-  units = c.none-found.ensures.units;
+  units = c.none-found.ensures.units ∙ c.units.ensures;
   len = omega arith;
   marked = c.put_all.ensures.marked;
-  taking = λ ls es means. taking_none g.met.W.Weight.laws means _ c.put_all.ensures.waits (c.put_all.ensures.marks (unmarked 64)) c.none-found.ensures.notes;
+  taking = λ ls es means. taking_none g.met.W.Weight.laws means _ c.put_all.ensures.waits (c.put_all.ensures.marks (unmarked 64)) (rw c.units.ensures at c.none-found.ensures.notes);
 }
 
 pub raise_all-requires-clause-marked : goal.raise_all-requires-clause-marked
@@ -20,7 +20,7 @@ pub loop-v-smaller : goal.loop-v-smaller
 loop-v-smaller g c =
     let was = c.loop-v.invariant in
     let (below, marked) = was.marked.each c.in-Some.v c.in-Some.field-0-1 c.in-Some.ensures.taken.0.here in
-    marks_less c.loop-v.waiting c.in-Some.v c.args.n below marked
+    marks_less c.loop-v.waiting c.in-Some.v c.args.graph.now.groups.now.units below marked
 
 pub loop-v-preserved : goal.loop-v-preserved
 loop-v-preserved g c =
