@@ -26,5 +26,5 @@ module _ {W : Type 0} (g : Ghosts W) (laws : Laws g.zero g.plus g.le g.size) (m 
   marks_below e = marks_alike (λ u h. sym (get_or-take (length m.codes) xs u 0 h) ∙ (ap (λ zs. get_or zs u 0) e ∙ get_or-take (length m.codes) ys u 0 h))
 
 -- a plan that is untouched stands for the same model
-pub untouched_model : {W : Type 0} (p q : Plan W) → Untouched p q → model_of q ≡ model_of p
+pub untouched_model : {W : Type 0} {g : Ghosts W} (p q : Plan W g) → Untouched p q → model_of q ≡ model_of p
 untouched_model p q u = cc

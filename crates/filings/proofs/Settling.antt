@@ -9,7 +9,6 @@ use Rattle.plans.specs.declared.plan.Link.{Link}
 use Rattle.plans.specs.declared.plan.Plan.{Plan}
 use Rattle.plans.specs.Calls.{Called, reply_of, after_of, mark_verdict}
 use Rattle.plans.specs.Model.{Model, model_of}
-use Rattle.plans.specs.Sound.{Sound}
 use Rattle.plans.proofs.Linking.{link_size_lem}
 use Rattle.plans.proofs.Verdicts.{fails, passes}
 use Rattle.filings.specs.declared.filing.Filing.{Filing}
@@ -19,7 +18,7 @@ use Rattle.filings.specs.Filed.{Filed, Marks}
 use Rattle.filings.proofs.Parting.{outlive_at_lem}
 use Rattle.filings.proofs.Staying.{Fairly, fair_plan}
 
-module _ {W X : Type 0} {verdict : Option Refusal} {x y : X} {next : Model W} {p q : Plan W} where
+module _ {W X : Type 0} {g : Ghosts W} {verdict : Option Refusal} {x y : X} {next : Model W} {p q : Plan W g} where
   -- an accepted call was not to be refused
   pub was_accepted : Called verdict x next p (Ok y) q → verdict ≡ None
   was_accepted c = go verdict c.reply
@@ -32,24 +31,23 @@ module _ {W X : Type 0} {verdict : Option Refusal} {x y : X} {next : Model W} {p
   now_next c = c.model ∙ ap (λ v. after_of v next (model_of p)) (was_accepted c)
 
 -- the link that a call names, in the model
-pub in_model : {W : Type 0} (g : Ghosts W) (p : Plan W) → Sound g p → (k : ℕ) (l : Link W) → k < p.link_count → l ≡ get_or p.links.now k l → (k < length (model_of p).links) × (l ≡ get_or (model_of p).links k l)
-in_model g p s k l h is = (rw (link_size_lem g p s) h, is ∙ sym (get_or-take p.link_count p.links.now k l h))
+pub in_model : {W : Type 0} {g : Ghosts W} (p : Plan W g) (k : ℕ) (l : Link W) → k < p.link_count → l ≡ get_or p.links.now k l → (k < length (model_of p).links) × (l ≡ get_or (model_of p).links k l)
+in_model p k l h is = (rw (link_size_lem p) h, is ∙ sym (get_or-take p.link_count p.links.now k l h))
 
 -- whether marks outlive an edit of that link
-pub outlives_it : {W : Type 0} (g : Ghosts W) (p : Plan W) → Sound g p → (sides : List ℕ) (edit : Link W → Edit) (k : ℕ) (l : Link W) → k < p.link_count → l ≡ get_or p.links.now k l → outlives sides (edit l) ≡ outlive_at sides edit (model_of p).links k
-outlives_it g p s sides edit k l h is = let m = in_model g p s k l h is in sym (outlive_at_lem sides edit (model_of p).links k l m.0 m.1)
+pub outlives_it : {W : Type 0} {g : Ghosts W} (p : Plan W g) (sides : List ℕ) (edit : Link W → Edit) (k : ℕ) (l : Link W) → k < p.link_count → l ≡ get_or p.links.now k l → outlives sides (edit l) ≡ outlive_at sides edit (model_of p).links k
+outlives_it p sides edit k l h is = let m = in_model p k l h is in sym (outlive_at_lem sides edit (model_of p).links k l m.0 m.1)
 
 -- a filing whose marks stay as the table says keeps what every filing keeps
-pub stays_filed : {W : Type 0} (g : Ghosts W) (before after : Filing W) (stay : Bool) (next : Model W) → Sound g after.plan → model_of after.plan ≡ next
+pub stays_filed : {W : Type 0} {g : Ghosts W} (before after : Filing W g) (stay : Bool) (next : Model W) → model_of after.plan ≡ next
     → after.kept.kept ≡ (before.kept.kept && stay) → after.kept.sides ≡ before.kept.sides
     → (Fairly g (model_of before.plan) → Fairly g next → Marks g (model_of before.plan) before.kept.sides → stay ≡ true → Marks g next before.kept.sides)
     → Filed g before → Filed g after
-stays_filed g before after stay next t is kept sides keeps filed = record {
-  plan = t;
+stays_filed {g = g} before after stay next is kept sides keeps filed = record {
   sides = ap length sides ∙ filed.sides;
   current = λ flag.
       let both = and_parts before.kept.kept stay (sym kept ∙ flag) in
-      let new = keeps (fair_plan g before.plan filed.plan) (subst (λ m. Fairly g m) is (fair_plan g after.plan t)) (filed.current both.0) both.1 in
+      let new = keeps (fair_plan before.plan) (subst (λ m. Fairly g m) is (fair_plan after.plan)) (filed.current both.0) both.1 in
       subst (λ m. Marks g m after.kept.sides) (sym is) (subst (λ xs. Marks g next xs) (sym sides) new);
 }
 

@@ -18,7 +18,7 @@ use Rattle.plans.specs.declared.plan.Plan.{Plan}
 use Rattle.plans.specs.Calls.{most_total}
 use Rattle.plans.specs.Model.{Model, model_of, total_of, changed, linked, struck, reweighed, marked, recoded}
 use Rattle.plans.specs.Divided.{valued, links_of, side_of}
-use Rattle.plans.specs.Sound.{Joins, Sound}
+use Rattle.plans.specs.Sound.{Joins}
 use Rattle.plans.proofs.Linking.{unit_size, link_size_lem}
 use Rattle.filings.specs.declared.kept.Change.TheVariants.{Equal, Heavier, Lighter}
 use Rattle.filings.specs.Edits.{is_one_side, suits, outlives, strike_of, reweigh_of, mark_of, stays, striking, reweighing, marking}
@@ -79,18 +79,20 @@ module _ {W : Type 0} (g : Ghosts W) where
       let t = total_values m.links in
       sound_within (kind_of g) (length m.codes) (links_of g m) (ends_values (length m.codes) m.links joins) (omega arith)
 
-  pub fair_plan : (p : Plan W) → Sound g p → Fairly (model_of p)
-  fair_plan p s =
-      let ls = (model_of p).links in
-      let size = link_size_lem g p s in
-      let joins : AllByRecursion (Joins g p.unit_count) ls = all_from_every (Joins g p.unit_count) ls (λ k d low high.
-      let h : k < p.link_count = omega arith in
-      subst (Joins g p.unit_count) (sym (get_or-take p.link_count p.links.now k d h)) (s.joins k d low h)) in
-      let c = s.counted in
-      let m = s.limited in
-      fair_links (model_of p) (subst (λ n. AllByRecursion (Joins g n) ls) (sym (unit_size g p s)) joins) (omega arith)
+-- nor over those of a plan
+pub fair_plan : {W : Type 0} {g : Ghosts W} (p : Plan W g) → Fairly g (model_of p)
+fair_plan {g = g} p =
+    let ls = (model_of p).links in
+    let size = link_size_lem p in
+    let joins : AllByRecursion (Joins g p.unit_count) ls = all_from_every (Joins g p.unit_count) ls (λ k d low high.
+    let h : k < p.link_count = omega arith in
+    subst (Joins g p.unit_count) (sym (get_or-take p.link_count p.links.now k d h)) (p.sound.joins k d low h)) in
+    let c = p.sound.counted in
+    let m = p.sound.limited in
+    fair_links g (model_of p) (subst (λ n. AllByRecursion (Joins g n) ls) (sym (unit_size p)) joins) (omega arith)
 
-  module _ (laws : Laws g.zero g.plus g.le g.size) (bounded : (x : W) → g.size (g.value x) ≤ limit) (m : Model W) (sides : List ℕ) (fair : Fairly m) (marks : Marks g m sides) where
+module _ {W : Type 0} (g : Ghosts W) where
+  module _ (laws : Laws g.zero g.plus g.le g.size) (bounded : (x : W) → g.size (g.value x) ≤ limit) (m : Model W) (sides : List ℕ) (fair : Fairly g m) (marks : Marks g m sides) where
     abbrev units : ℕ
     units = length m.codes
 
@@ -109,7 +111,7 @@ module _ {W : Type 0} (g : Ghosts W) where
         let e = length-set m.codes k text in
         record { units = rw e marks.units; bytes = rw e marks.bytes; first = marks.first; weakest = rw e marks.weakest }
 
-    pub linked_stays : (l : Link W) → Fairly (linked l m) → is_one_side sides l.first l.second ≡ true → Marks g (linked l m) sides
+    pub linked_stays : (l : Link W) → Fairly g (linked l m) → is_one_side sides l.first l.second ≡ true → Marks g (linked l m) sides
     linked_stays l new one =
         let e = map-append (valued g) m.links (l ∷ []) in
         remains (m.links ++ (l ∷ [])) (rw e ((edits_keep_lem (kind_of g) laws).link units (side_of sides) (links_of g m) (valued g l) (one_side l.first l.second one) fair (rw e at new) marks.weakest))
@@ -146,15 +148,15 @@ module _ {W : Type 0} (g : Ghosts W) where
       out_told : outlives sides (strike_of at.here) ≡ true → (at.here.in_service ≡ false) ⊎ DifferentSides (side_of sides) (valued g at.here)
       out_told h = ⊎_elim inl (λ e. inr (apart e)) (out_why at.here.in_service (is_one_side sides at.here.first at.here.second) h)
 
-      pub struck_stays : Fairly (struck k m) → stays g m sides (striking k) ≡ true → Marks g (struck k m) sides
+      pub struck_stays : Fairly g (struck k m) → stays g m sides (striking k) ≡ true → Marks g (struck k m) sides
       struck_stays new stay = moves (struck k m).links (ps ++ qs) (ap (map (valued g)) at.less ∙ map-append (valued g) at.front at.back) new ((edits_keep_lem (kind_of g) laws).strike units (side_of sides) ps qs (valued g at.here) (out_told (sym (at.stay sides strike_of) ∙ stay)))
 
-      pub marked_stays : (b : ℕ) → b < 2 → Fairly (marked k (eqb b 1) m) → stays g m sides (marking k b) ≡ true → Marks g (marked k (eqb b 1) m) sides
+      pub marked_stays : (b : ℕ) → b < 2 → Fairly g (marked k (eqb b 1) m) → stays g m sides (marking k b) ≡ true → Marks g (marked k (eqb b 1) m) sides
       marked_stays zero low new stay = moves (marked k false m).links _ (changes _) new ((edits_keep_lem (kind_of g) laws).mark_out units (side_of sides) ps qs (valued g at.here) (out_told (sym (at.stay sides (mark_of 0)) ∙ stay)))
       marked_stays (suc zero) low new stay = moves (marked k true m).links _ (changes _) new ((edits_keep_lem (kind_of g) laws).mark_in units (side_of sides) ps qs (valued g at.here) (⊎_elim inl (λ e. inr (level e)) (in_why at.here.in_service (is_one_side sides at.here.first at.here.second) (sym (at.stay sides (mark_of 1)) ∙ stay))))
       marked_stays (suc (suc b)) low new stay = absurd (omega arith)
 
-      pub reweighed_stays : (w : W) → Fairly (reweighed k w m) → stays g m sides (reweighing k w) ≡ true → Marks g (reweighed k w m) sides
+      pub reweighed_stays : (w : W) → Fairly g (reweighed k w m) → stays g m sides (reweighing k w) ≡ true → Marks g (reweighed k w m) sides
       reweighed_stays w new stay =
           let old = at.here.weight in
           let either : g.le (g.value old) (g.value w) ≡ false → g.le (g.value w) (g.value old) ≡ true = λ e. ⊎_elim (λ (h : g.le (g.value old) (g.value w) ≡ true). absurd (both_ways _ e h)) (λ h. h) (laws.total (g.value old) (g.value w) (bounded old) (bounded w)) in

@@ -4,7 +4,6 @@ ghost use Rattle.plans.specs.Calls.{Answered, Called, enter_verdict, link_verdic
 ghost use Rattle.plans.specs.Divided.{weigh_verdict, weighed};
 ghost use Rattle.plans.specs.Marks.{Shows, Untouched};
 ghost use Rattle.plans.specs.Model.{entered, linked, marked, model_of, recoded, reweighed, struck};
-ghost use Rattle.plans.specs.Sound.{Sound};
 ghost use Rattle.sheets.specs.Faults.{FirstFault};
 ghost use Rattle.sheets.specs.Fields.{issue_in};
 ghost use Rattle.sheets.specs.Format.{sheet_of, Valid};
@@ -20,7 +19,7 @@ use sheets::fault::Fault;
 use weights::weight::Weight;
 
 #[derive(Drop)]
-pub struct Filing<'a, W> {
+pub struct Filing<'a, W: Weight> {
     plan: Plan<'a, W>,
     kept: Kept,
 }
@@ -50,7 +49,6 @@ impl<'a, W: Weight> Filing<'a, W> {
     // A filing with no units, no links and no kept marks; `Plan::check` tells whether the memory suffices.
     pub fn open(links: &'a mut [Link<W>]) -> Filing<'a, W>
         requires { most_links ≤ length links.old }
-        ensures sound { Sound W.Weight result.plan }
         ensures filed { Filed W.Weight result }
         ensures model { model_of result.plan ≡ record { codes = []; links = [] } }
         ensures memory { result.plan.links.now ≡ links.old }
@@ -76,8 +74,6 @@ impl<'a, W: Weight> Filing<'a, W> {
 
     // Adds a unit with the given code and answers its number: 7, 8, 6.
     pub fn enter(&mut self, text: &[u8]) -> Result<usize, Refusal>
-        requires { Sound W.Weight self.old.plan }
-        ensures sound { Sound W.Weight self.new.plan }
         ensures filed { Filed W.Weight self.old → Filed W.Weight self.new }
         ensures called { Called (enter_verdict (model_of self.old.plan) text.now) (length (model_of self.old.plan).codes) (entered text.now (model_of self.old.plan)) self.old.plan result self.new.plan }
         ensures kept { Settled (stays W.Weight (model_of self.old.plan) self.old.kept.sides entering) self.old result self.new }
@@ -89,8 +85,6 @@ impl<'a, W: Weight> Filing<'a, W> {
 
     // Gives a unit another code: 9, 7, 8.
     pub fn recode(&mut self, unit: usize, text: &[u8]) -> Result<(), Refusal>
-        requires { Sound W.Weight self.old.plan }
-        ensures sound { Sound W.Weight self.new.plan }
         ensures filed { Filed W.Weight self.old → Filed W.Weight self.new }
         ensures called { Called (recode_verdict (model_of self.old.plan) unit text.now) tt (recoded unit text.now (model_of self.old.plan)) self.old.plan result self.new.plan }
         ensures kept { Settled (stays W.Weight (model_of self.old.plan) self.old.kept.sides recoding) self.old result self.new }
@@ -102,8 +96,6 @@ impl<'a, W: Weight> Filing<'a, W> {
 
     // Replaces the whole plan by that of a sheet, or tells the first fault.
     pub fn read(&mut self, bytes: &[u8]) -> Result<(), Fault>
-        requires { Sound W.Weight self.old.plan }
-        ensures sound { Sound W.Weight self.new.plan }
         ensures filed { Filed W.Weight self.old → Filed W.Weight self.new }
         ensures sheet { OnOk result ((bytes.now ≡ sheet_of W.Weight (issue_in bytes.now) (model_of self.new.plan)) × Valid W.Weight (issue_in bytes.now) (model_of self.new.plan)) }
         ensures kept { OnOk result ((self.new.kept.kept ≡ false) × (self.new.kept.sides ≡ self.old.kept.sides)) }
@@ -116,8 +108,6 @@ impl<'a, W: Weight> Filing<'a, W> {
 
     // Removes a link; later links move down by one: 13.
     pub fn strike(&mut self, link: usize) -> Result<(), Refusal>
-        requires { Sound W.Weight self.old.plan }
-        ensures sound { Sound W.Weight self.new.plan }
         ensures filed { Filed W.Weight self.old → Filed W.Weight self.new }
         ensures called { Called (strike_verdict (model_of self.old.plan) link) tt (struck link (model_of self.old.plan)) self.old.plan result self.new.plan }
         ensures kept { Settled (stays W.Weight (model_of self.old.plan) self.old.kept.sides (striking link)) self.old result self.new }
@@ -130,8 +120,6 @@ impl<'a, W: Weight> Filing<'a, W> {
 
     // Adds a link in service between two units and answers its number: 9, 10, 11, 6, 12.
     pub fn link(&mut self, first: usize, second: usize, weight: W) -> Result<usize, Refusal>
-        requires { Sound W.Weight self.old.plan }
-        ensures sound { Sound W.Weight self.new.plan }
         ensures filed { Filed W.Weight self.old → Filed W.Weight self.new }
         ensures called { Called (link_verdict (model_of self.old.plan) W.Weight first second weight) (length (model_of self.old.plan).links) (linked (record { first = first; second = second; in_service = true; weight = weight }) (model_of self.old.plan)) self.old.plan result self.new.plan }
         ensures kept { Settled (stays W.Weight (model_of self.old.plan) self.old.kept.sides (linking first second)) self.old result self.new }
@@ -143,8 +131,6 @@ impl<'a, W: Weight> Filing<'a, W> {
 
     // Gives a link another weight: 13, 11, 12.
     pub fn reweigh(&mut self, link: usize, weight: W) -> Result<(), Refusal>
-        requires { Sound W.Weight self.old.plan }
-        ensures sound { Sound W.Weight self.new.plan }
         ensures filed { Filed W.Weight self.old → Filed W.Weight self.new }
         ensures called { Called (reweigh_verdict (model_of self.old.plan) W.Weight link weight) tt (reweighed link weight (model_of self.old.plan)) self.old.plan result self.new.plan }
         ensures kept { Settled (stays W.Weight (model_of self.old.plan) self.old.kept.sides (reweighing link weight)) self.old result self.new }
@@ -156,10 +142,8 @@ impl<'a, W: Weight> Filing<'a, W> {
         Ok(())
     }
 
-    // Sets a link in service (1) or out of service (0): 13, 14.
+    // Sets a link in service (1) or out of service (0): 13, 14. A byte, since one that is no mark is refused.
     pub fn mark(&mut self, link: usize, mark: u8) -> Result<(), Refusal>
-        requires { Sound W.Weight self.old.plan }
-        ensures sound { Sound W.Weight self.new.plan }
         ensures filed { Filed W.Weight self.old → Filed W.Weight self.new }
         ensures called { Called (mark_verdict (model_of self.old.plan) link mark) tt (marked link (mark == 1) (model_of self.old.plan)) self.old.plan result self.new.plan }
         ensures kept { Settled (stays W.Weight (model_of self.old.plan) self.old.kept.sides (marking link mark)) self.old result self.new }
@@ -172,7 +156,6 @@ impl<'a, W: Weight> Filing<'a, W> {
 
     // The weight of the division that one byte for each unit marks: 15, 14, 15.
     pub fn weigh(&self, marks: &[u8]) -> Result<W, Refusal>
-        requires { Sound W.Weight self.now.plan }
         ensures { Answered (weigh_verdict (model_of self.now.plan) marks.now) W.Weight.value (weighed W.Weight (model_of self.now.plan) marks.now) result }
     {
         self.plan.weigh(marks)
@@ -180,10 +163,8 @@ impl<'a, W: Weight> Filing<'a, W> {
 
     // Keeps the marks of the plan's units, which are those of a weakest division.
     pub fn keep(&mut self, marks: &[u8])
-        requires sound { Sound W.Weight self.old.plan }
         requires marks { Marks W.Weight (model_of self.old.plan) marks.now }
         requires size { self.old.plan.unit_count ≤ length marks.now }
-        ensures sound { Sound W.Weight self.new.plan }
         ensures filed { Filed W.Weight self.new }
         ensures plan { self.new.plan ≡ self.old.plan }
         ensures kept { self.new.kept.kept ≡ true }
@@ -195,10 +176,8 @@ impl<'a, W: Weight> Filing<'a, W> {
 
     // Writes back the marks of all links, as they were copied out; kept marks are not touched.
     pub fn put_marks(&mut self, marks: &[u8])
-        requires sound { Sound W.Weight self.old.plan }
         requires size { self.old.plan.link_count ≤ length marks.now }
         requires shows { Shows marks.now (model_of self.old.plan).links }
-        ensures sound { Sound W.Weight self.new.plan }
         ensures filed { Filed W.Weight self.old → Filed W.Weight self.new }
         ensures kept { self.new.kept ≡ self.old.kept }
         ensures same { Untouched self.old.plan self.new.plan }

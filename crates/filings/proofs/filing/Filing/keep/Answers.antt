@@ -7,11 +7,9 @@ use Rattle.filings.proofs.filing.Filing.keep.Goals as goal
 
 pub returns-clause-filed : goal.returns-clause-filed
 returns-clause-filed g c =
-    let w = g.W.Weight in
     let p = c.args.self.now.plan in
     let front = rw c.unit_count-n.ensures.value at c.keep.ensures.sides in
     record {
-      plan = c.requires.sound;
       sides = c.keep.ensures.size;
-      current = λ flag. marks_below w g.met.W.Weight.laws (model_of p) (fair_plan w p c.requires.sound) c.args.marks.now c.keep.new.self.sides (rw (unit_size w p c.requires.sound) (sym front)) c.requires.marks;
+      current = λ flag. marks_below g.W.Weight g.met.W.Weight.laws (model_of p) (fair_plan p) c.args.marks.now c.keep.new.self.sides (rw (unit_size p) (sym front)) c.requires.marks;
     }

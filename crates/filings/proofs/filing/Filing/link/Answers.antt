@@ -16,5 +16,5 @@ returns-clause-filed g c =
     let l : Link g.row.W.Denot = record { first = a; second = b; in_service = true; weight = c.args.weight } in
     let done = c.in_ok-link.ensures in
     let settled = c.settle.ensures in
-    stays_filed w f _ (is_one_side f.kept.sides a b) (linked l (model_of f.plan)) done.sound (now_next done.called) settled.kept settled.sides
+    stays_filed f _ (is_one_side f.kept.sides a b) (linked l (model_of f.plan)) (now_next done.called) settled.kept settled.sides
     (λ fair new marks stay. linked_stays w met.laws met.bounded (model_of f.plan) f.kept.sides fair marks l new stay)

@@ -8,7 +8,6 @@ returns-clause-filed g c filed =
     let f = c.args.self.now in
     let same = untouched_model f.plan c.put_marks.new.self (c.put_marks.ensures.same c.requires.shows) in
     record {
-      plan = c.put_marks.ensures.sound;
       sides = filed.sides;
       current = λ kept. subst (λ m. Marks g.W.Weight m f.kept.sides) (sym same) (filed.current kept);
     }

@@ -12,5 +12,5 @@ returns-clause-filed g c =
     let f = c.args.self.now in
     let done = c.in_ok-recode.ensures in
     let settled = c.settle.ensures in
-    stays_filed w f _ (outlives f.kept.sides Recode) (recoded c.args.unit c.args.text.now (model_of f.plan)) done.sound (now_next done.called) settled.kept settled.sides
+    stays_filed f _ (outlives f.kept.sides Recode) (recoded c.args.unit c.args.text.now (model_of f.plan)) (now_next done.called) settled.kept settled.sides
     (λ fair new marks stay. recoded_stays w met.laws met.bounded (model_of f.plan) f.kept.sides fair marks c.args.unit c.args.text.now)

@@ -17,11 +17,10 @@ returns g c =
     let was = c.in_ok-old.ensures.value in
     let done = c.in_ok-strike.ensures in
     let settled = c.settle.ensures in
-    let kept = settled.kept ∙ ap (λ l. f.kept.kept && outlives f.kept.sides (Out l)) c.from.ensures ∙ ap (λ b. f.kept.kept && b) (outlives_it w f.plan c.requires f.kept.sides strike_of k old was.0 was.1) in
-    let filed = stays_filed w f _ (stays w m f.kept.sides (striking k)) (struck k m) done.sound (now_next done.called) kept settled.sides
-    (λ fair new marks stay. struck_stays w met.laws met.bounded m f.kept.sides fair marks k (in_model w f.plan c.requires k old was.0 was.1).0 new stay) in
+    let kept = settled.kept ∙ ap (λ l. f.kept.kept && outlives f.kept.sides (Out l)) c.from.ensures ∙ ap (λ b. f.kept.kept && b) (outlives_it f.plan f.kept.sides strike_of k old was.0 was.1) in
+    let filed = stays_filed f _ (stays w m f.kept.sides (striking k)) (struck k m) (now_next done.called) kept settled.sides
+    (λ fair new marks stay. struck_stays w met.laws met.bounded m f.kept.sides fair marks k (in_model f.plan k old was.0 was.1).0 new stay) in
     record {
-      sound = done.sound;
       filed = filed;
       called = done.called;
       kept = (kept, settled.sides);
