@@ -30,21 +30,7 @@ pub length_fours : (f : ℕ → ℕ) (n : ℕ) → length (fours f n) ≡ 4 * n
 length_fours f zero = refl
 length_fours f (suc n) = length-append (fours f n) (four (f n)) ∙ (let e = length_fours f n in omega arith)
 
-pub joined_map : {X Y : Type 0} (f : Y → List ℕ) (h : X → Y) (xs : List X) → flat_map f (map h xs) ≡ flat_map (λ x. f (h x)) xs
-joined_map f h [] = refl
-joined_map f h (x ∷ xs) = ap (λ q. f (h x) ++ q) (joined_map f h xs)
-
 module _ {X : Type 0} (f : X → List ℕ) where
   -- one record more
   pub joined_step : (xs : List X) (i : ℕ) (d : X) → i < length xs → flat_map f (take (i + 1) xs) ≡ flat_map f (take i xs) ++ f (get_or xs i d)
   joined_step xs i d h = ap (flat_map f) (take_more xs i d h) ∙ sym (flat_map_more f [] (take i xs) (get_or xs i d))
-
-  -- the records before one and itself are no longer than all
-  pub joined_within : (xs : List X) (i : ℕ) (d : X) → i < length xs → length (flat_map f (take i xs)) + length (f (get_or xs i d)) ≤ length (flat_map f xs)
-  joined_within [] i d h = absurd (omega arith)
-  joined_within (x ∷ xs) zero d h = let e = length-append (f x) (flat_map f xs) in omega arith
-  joined_within (x ∷ xs) (suc i) d h =
-      let a = length-append (f x) (flat_map f (take i xs)) in
-      let b = length-append (f x) (flat_map f xs) in
-      let r = joined_within xs i d (omega arith) in
-      omega arith

@@ -9,19 +9,13 @@ use Rattle.writers.specs.Fields.{Put, Room}
 pub put_same : {xs ys f q : List ℕ} {at n : ℕ} → f ≡ q → Put xs at f n ys → Put xs at q n ys
 put_same {xs} {ys} {f} {q} {at} {n} e p = subst (λ t. Put xs at t n ys) e p
 
-pub put_one : (xs : List ℕ) (at b : ℕ) → at < length xs → Put xs at (b ∷ []) (at + 1) (set xs at b)
-put_one xs at b h = record {
-  follows = refl;
-  front = take_more_set xs at b h;
-  rest = drop-set-lt (at + 1) xs at b (omega arith);
-}
-
 -- a part of the bytes was written over
-pub put_part : (xs ys zs : List ℕ) (at : ℕ) → zs ≡ ys → at + length ys ≤ length xs → Put xs at ys (at + length ys) (put_mid at (at + length ys - at) xs zs)
-put_part xs ys zs at same h =
+pub put_part : (xs ys zs : List ℕ) (at : ℕ) → zs ≡ ys → at + length ys ≤ length xs → length (put_mid at (at + length ys - at) xs zs) ≡ length xs → Put xs at ys (at + length ys) (put_mid at (at + length ys - at) xs zs)
+put_part xs ys zs at same h size =
     let len = ap length same in
     record {
       follows = refl;
+      size = size;
       front = take-put_mid at (at + length ys - at) xs zs (at + length ys) (omega arith) (omega arith) ∙ ap (λ q. take at xs ++ q) same;
       rest = drop-put_mid at (at + length ys - at) xs zs (at + length ys) (omega arith) (omega arith) (omega arith);
     }
@@ -40,21 +34,7 @@ put_both {xs} {ys} {zs} {f} {q} {at} {m} {n} a b =
     let ll = length-append f q in
     record {
       follows = omega arith;
+      size = b.size ∙ a.size;
       front = b.front ∙ (ap (λ t. t ++ q) a.front ∙ append_assoc (take at xs) f q);
       rest = b.rest ∙ further m n ys xs (omega arith) a.rest;
     }
-
--- room for three runs of fields is room for each where it goes
-module _ (f q s : List ℕ) where
-  three : length (f ++ (q ++ s)) ≡ length f + (length q + length s)
-  three = length-append f (q ++ s) ∙ ap (λ n. length f + n) (length-append q s)
-
-  pub room_second : {xs ys : List ℕ} {at m : ℕ} → Room xs at (f ++ (q ++ s)) → Put xs at f m ys → length ys ≡ length xs → Room ys m q
-  room_second {xs} {ys} {at} {m} room a len = let l = three in let n = a.follows in omega arith
-
-  pub room_third : {xs ys zs : List ℕ} {at m n : ℕ} → Room xs at (f ++ (q ++ s)) → Put xs at f m ys → Put ys m q n zs → length zs ≡ length xs → Room zs n s
-  room_third {xs} {ys} {zs} {at} {m} {n} room a b len =
-      let l = three in
-      let first = a.follows in
-      let second = b.follows in
-      omega arith

@@ -1,6 +1,6 @@
 // Writing the sheet of a plan into lent bytes.
 #![tactic(auto)]
 
-mod fields;
+mod pen;
 mod records;
 pub mod write;

@@ -1,12 +1,12 @@
-// Puts the records of a sheet into lent bytes: the head, a code for each unit, then the links.
-ghost use Rattle.std.specs.Prelude.{◌≡◌, cond, map, length, nat_lt};
+// Writes the records of a sheet: the head, a code for each unit, then the links.
+ghost use Rattle.std.specs.Prelude.{◌≡◌, map, length, nat_lt};
 ghost use Rattle.codes.specs.Held.{bytes_of};
 ghost use Rattle.plans.specs.Model.{code_of};
 ghost use Rattle.sheets.specs.Format.{code_field, size_of_code, fours, bytes_of_head, link_bytes};
 ghost use Rattle.std.specs.List.{flat_map};
-ghost use Rattle.writers.specs.Fields.{Put, Room};
+ghost use Rattle.writers.specs.Fields.{Fits, Wrote};
 
-use crate::fields::{put_byte, put_bytes};
+use crate::pen::Pen;
 use codes::code::FaultCode;
 use plans::plan::{Link, Unit};
 use sheets::head::MAGIC;
@@ -14,15 +14,16 @@ use sheets::issue::Issue;
 use weights::weight::Weight;
 
 // The head: issue, kind, and how many units and links follow.
-pub(crate) fn put_head<W: Weight>(out: &mut [u8], issue: Issue, units: u8, links: u16) -> usize
-    requires { Room out.old 0 (bytes_of_head W.Weight issue units links) }
-    ensures { Put out.old 0 (bytes_of_head W.Weight issue units links) result out.new }
+pub(crate) fn put_head<W: Weight>(pen: &mut Pen, issue: Issue, units: u8, links: u16)
+    requires { Fits pen.old (bytes_of_head W.Weight issue units links) }
+    ensures lent { pen.new.out.ghost_name ≡ pen.old.out.ghost_name }
+    ensures put { Wrote pen.old (bytes_of_head W.Weight issue units links) pen.new }
 {
-    let at = put_bytes(out, 0, &MAGIC);
-    let at = put_bytes(out, at, &issue.number().to_le_bytes());
-    let at = put_byte(out, at, W::kind_byte());
-    let at = put_byte(out, at, units);
-    put_bytes(out, at, &links.to_le_bytes())
+    pen.put_bytes(&MAGIC);
+    pen.put_bytes(&issue.number().to_le_bytes());
+    pen.put_byte(W::kind_byte());
+    pen.put_byte(units);
+    pen.put_bytes(&links.to_le_bytes());
 }
 
 // Whether a zero byte closes the field of a code.
@@ -33,67 +34,58 @@ fn is_closed(issue: Issue, code: FaultCode) -> bool
 }
 
 // A code, closed by a zero byte where it is shorter than its field.
-fn put_code(out: &mut [u8], at: usize, issue: Issue, code: FaultCode) -> usize
-    requires { Room out.old at (code_field issue (bytes_of code)) }
-    ensures { Put out.old at (code_field issue (bytes_of code)) result out.new }
+fn put_code(pen: &mut Pen, issue: Issue, code: FaultCode)
+    requires { Fits pen.old (code_field issue (bytes_of code)) }
+    ensures lent { pen.new.out.ghost_name ≡ pen.old.out.ghost_name }
+    ensures put { Wrote pen.old (code_field issue (bytes_of code)) pen.new }
 {
-    let next = put_bytes(out, at, code.text());
+    pen.put_bytes(code.text());
     if is_closed(issue, code) {
-        return put_byte(out, next, 0);
+        pen.put_byte(0);
     }
-    next
 }
 
 // The codes of the units.
-pub(crate) fn put_codes(out: &mut [u8], at: usize, issue: Issue, units: &[Unit]) -> usize
-    requires { Room out.old at (flat_map (code_field issue) (map code_of units.now)) }
-    ensures { Put out.old at (flat_map (code_field issue) (map code_of units.now)) result out.new }
+pub(crate) fn put_codes(pen: &mut Pen, issue: Issue, units: &[Unit])
+    requires { Fits pen.old (flat_map (code_field issue) (map code_of units.now)) }
+    ensures lent { pen.new.out.ghost_name ≡ pen.old.out.ghost_name }
+    ensures put { Wrote pen.old (flat_map (code_field issue) (map code_of units.now)) pen.new }
 {
-    let mut next = at;
     for unit in units {
-        next = put_code(out, next, issue, unit.code);
+        put_code(pen, issue, unit.code);
     }
-    next
 }
 
 // The parts of a weight, four bytes each.
-fn put_weight<W: Weight>(out: &mut [u8], at: usize, weight: W) -> usize
-    requires { Room out.old at (fours (W.Weight.nth (W.Weight.value weight)) W.Weight.arity) }
-    ensures { Put out.old at (fours (W.Weight.nth (W.Weight.value weight)) W.Weight.arity) result out.new }
+fn put_weight<W: Weight>(pen: &mut Pen, weight: W)
+    requires { Fits pen.old (fours (W.Weight.nth (W.Weight.value weight)) W.Weight.arity) }
+    ensures lent { pen.new.out.ghost_name ≡ pen.old.out.ghost_name }
+    ensures put { Wrote pen.old (fours (W.Weight.nth (W.Weight.value weight)) W.Weight.arity) pen.new }
 {
-    let mut next = at;
     for i in 0..W::part_count() {
-        next = put_bytes(out, next, &weight.part(i).to_le_bytes());
+        pen.put_bytes(&weight.part(i).to_le_bytes());
     }
-    next
 }
 
-// The mark of a link: 1 in service, 0 out.
-fn mark(in_service: bool) -> u8
-    ensures { result ≡ cond in_service 1 0 }
+// A link: unit, unit, mark (1 in service, 0 out) and weight.
+fn put_link<W: Weight>(pen: &mut Pen, link: Link<W>)
+    requires { Fits pen.old (link_bytes W.Weight link) }
+    ensures lent { pen.new.out.ghost_name ≡ pen.old.out.ghost_name }
+    ensures put { Wrote pen.old (link_bytes W.Weight link) pen.new }
 {
-    u8::from(in_service)
-}
-
-// A link: unit, unit, mark and weight.
-fn put_link<W: Weight>(out: &mut [u8], at: usize, link: Link<W>) -> usize
-    requires { Room out.old at (link_bytes W.Weight link) }
-    ensures { Put out.old at (link_bytes W.Weight link) result out.new }
-{
-    let at = put_byte(out, at, link.first);
-    let at = put_byte(out, at, link.second);
-    let at = put_byte(out, at, mark(link.in_service));
-    put_weight(out, at, link.weight)
+    pen.put_byte(link.first);
+    pen.put_byte(link.second);
+    pen.put_byte(u8::from(link.in_service));
+    put_weight(pen, link.weight);
 }
 
 // The links.
-pub(crate) fn put_links<W: Weight>(out: &mut [u8], at: usize, links: &[Link<W>]) -> usize
-    requires { Room out.old at (flat_map (link_bytes W.Weight) links.now) }
-    ensures { Put out.old at (flat_map (link_bytes W.Weight) links.now) result out.new }
+pub(crate) fn put_links<W: Weight>(pen: &mut Pen, links: &[Link<W>])
+    requires { Fits pen.old (flat_map (link_bytes W.Weight) links.now) }
+    ensures lent { pen.new.out.ghost_name ≡ pen.old.out.ghost_name }
+    ensures put { Wrote pen.old (flat_map (link_bytes W.Weight) links.now) pen.new }
 {
-    let mut next = at;
     for link in links {
-        next = put_link(out, next, *link);
+        put_link(pen, *link);
     }
-    next
 }

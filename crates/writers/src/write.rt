@@ -7,6 +7,7 @@ ghost use Rattle.sheets.specs.Format.{Valid, sheet_of};
 ghost use Rattle.writers.specs.Fields.{Put, Room};
 ghost use Rattle.writers.specs.Written.{Fitting, Refusing, Written, has_long_code};
 
+use crate::pen::Pen;
 use crate::records::{put_codes, put_head, put_links};
 use plans::plan::{Plan, Unit};
 use refusals::Refusal;
@@ -47,14 +48,16 @@ fn put_sheet<W: Weight>(out: &mut [u8], plan: &Plan<W>, issue: Issue) -> usize
     requires room { Room out.old 0 (sheet_of W.Weight issue (model_of plan.now)) }
     ensures { Put out.old 0 (sheet_of W.Weight issue (model_of plan.now)) result out.new }
 {
-    let at = put_head::<W>(
-        out,
+    let mut pen = Pen::over(out);
+    put_head::<W>(
+        &mut pen,
         issue,
         plan.unit_count() as u8,
         plan.link_count() as u16,
     );
-    let at = put_codes(out, at, issue, plan.units());
-    put_links(out, at, plan.links())
+    put_codes(&mut pen, issue, plan.units());
+    put_links(&mut pen, plan.links());
+    pen.place()
 }
 
 // Writes the plan's sheet in the issue with a number, and answers its length; the bytes beyond it stay: 2, 16, 17.
