@@ -18,6 +18,7 @@ pub enum Tie {
 // A key for each group that waits.
 #[derive(Drop)]
 pub struct TiedQueue<W> {
+    // a place for each group: a map or a Vec would allocate, and neither new nor put can say that there is no memory
     keys: [Option<W>; 64],
     tie: Tie,
 }

@@ -1,7 +1,7 @@
-use Rattle.std.proofs.Common.{◌≡◌, ◌+◌, ◌<◌, length, take, refl, ◌∙◌, arith, length-set, rules}
+use Rattle.std.proofs.Common.{◌≡◌, ◌+◌, ◌<◌, length, refl, ◌∙◌, arith, length-set}
 use Rattle.queues.specs.Keys.{no_heavier}
 use Rattle.drains.proofs.Counts.{waiting_to, waiting_most, waiting_less}
-use Rattle.drains.proofs.Draining.{drain_none, drain_set, drain_all, drop_more_set}
+use Rattle.drains.proofs.Draining.{drain_none, drain_set, drop_more_set}
 use Rattle.drains.proofs.drain.drain.Goals as goal
 
 -- one entry fewer waits
@@ -26,9 +26,6 @@ place g c = let less = fewer g c in let inv = c.loop-entry.invariant in omega ar
 pub bounds-out-count : goal.bounds-out-count
 bounds-out-count g c = place g c
 
-pub offset_bounds-out-count : goal.offset_bounds-out-count
-offset_bounds-out-count g c = let h : c.loop-entry.count < length c.loop-entry.out = place g c in search rules
-
 pub loop-entry-smaller : goal.loop-entry-smaller
 loop-entry-smaller g c = let less = fewer g c in omega arith
 
@@ -48,17 +45,3 @@ loop-entry-preserved g c =
       drain_set (no_heavier w) (q.key c.args.queue.now) (q.key c.loop-entry.queue) (q.key c.take.new.self) out count _ room inv.3 taken.0 taken.1,
       drop_more_set out c.args.out.now count _ inv.4,
     )
-
-pub returns : goal.returns
-returns g c =
-    let q = g.Q.PriorityQueue in
-    let w = g.W.Weight in
-    let inv = c.loop-entry.invariant in
-    let none = c.in_default.ensures.taken in
-    record {
-      sound = c.take.ensures.sound;
-      emptied = none.1;
-      few = omega arith;
-      drained = drain_all (no_heavier w) (q.key c.args.queue.now) (q.key c.loop-entry.queue) (take c.loop-entry.count c.loop-entry.out) none.0 inv.3;
-      rest = inv.4;
-    }

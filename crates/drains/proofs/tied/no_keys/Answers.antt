@@ -1,6 +1,5 @@
-use Rattle.std.proofs.Common.{refl}
 use Rattle.drains.proofs.Picking.{keyed_none}
 use Rattle.drains.proofs.tied.no_keys.Goals as goal
 
-pub returns : goal.returns
-returns g c = record { size = refl; empty = λ k. keyed_none 64 k }
+pub returns-clause-empty : goal.returns-clause-empty
+returns-clause-empty g c = λ k. keyed_none 64 k

@@ -2,8 +2,8 @@ use Rattle.std.proofs.Common.{◌≡◌, ◌<◌, length, get_or, None, refl, sy
 use Rattle.std.proofs.lemmas.Option.{slice_get_read, get_or_from_slice_get}
 use Rattle.queues.specs.Keys.{no_heavier}
 use Rattle.queues.proofs.Orders.{ordered}
-use Rattle.drains.specs.Ties.{keyed}
-use Rattle.drains.proofs.Picking.{pick_skip, pick_keep, pick_new, pick_all, pick_reached, keyed_past}
+use Rattle.drains.specs.Ties.{keyed, keyed_within}
+use Rattle.drains.proofs.Picking.{pick_skip, pick_keep, pick_new, pick_all}
 use Rattle.drains.proofs.tied.TiedQueue.pick.Goals.{in-Some+then-preferred, in-Some+else-preferred, in_default}
 use Rattle.drains.proofs.tied.TiedQueue.pick.Goals as goal
 
@@ -23,15 +23,12 @@ loop-group-preserved g c =
       | in_default w' ↦ rw w'.best-is (pick_skip (no_heavier w) laws tie (keyed keys) i (own ∙ w'.in_default.is) c.loop-group.best c.loop-group.invariant)
     ]
 
-pub returns : goal.returns
-returns g c =
+pub returns-clause-picked : goal.returns-clause-picked
+returns-clause-picked g c =
     let w = g.W.Weight in
     let laws = ordered w.value g.met.W.Weight.laws g.met.W.Weight.bounded in
     let keys = c.args.self.now.keys in
     let size = c.requires in
     let e : c.loop-group.group ≡ 64 = omega arith in
     let inv = rw e at c.loop-group.invariant in
-    record {
-      within = pick_reached (no_heavier w) laws c.args.self.now.tie (keyed keys) 64 c.loop-group.best inv;
-      picked = pick_all (no_heavier w) laws c.args.self.now.tie (keyed keys) (keyed_past keys c.requires) c.loop-group.best inv;
-    }
+    pick_all (no_heavier w) laws c.args.self.now.tie (keyed keys) (keyed_within keys c.requires) c.loop-group.best inv
