@@ -1,26 +1,26 @@
 // Plans with pseudo-random codes and links, as they are drawn up before any call is made.
 use samples::coded::code;
 use samples::dice::Dice;
-use samples::wire::{Parts, Wire};
+use samples::wire::{Parts, WeightKind, Wire};
 use std::alloc::{AllocError, Global};
 
 // A plan as plain values.
 #[derive(Drop)]
 pub struct Draft {
-    pub ranked: bool,
+    pub kind: WeightKind,
     pub codes: Vec<Vec<u8>>,
     pub wires: Vec<Wire>,
 }
 
-// What draws up the plans of one weight kind.
+// What draws up the plans, with weights of one kind.
 #[derive(Drop)]
-pub struct Draws<'a> {
+pub struct Draws {
     pub heap: Global,
-    pub dice: &'a mut Dice,
-    pub ranked: bool,
+    pub dice: Dice,
+    pub kind: WeightKind,
 }
 
-impl Draws<'_> {
+impl Draws {
     // Two different units.
     fn ends(&mut self, units: usize) -> (usize, usize) {
         let first = self.dice.below(units);
@@ -33,11 +33,13 @@ impl Draws<'_> {
 
     // The parts of a weight with an amount.
     fn parts(&mut self, amount: u32) -> Parts {
-        if !self.ranked {
-            return (amount, 0);
+        match self.kind {
+            WeightKind::Plain => (amount, 0),
+            WeightKind::Ranked => {
+                let safety = self.dice.below(amount as usize) as u32;
+                (safety, amount - safety)
+            }
         }
-        let safety = self.dice.below(amount as usize) as u32;
-        (safety, amount - safety)
     }
 
     // Links over at least two units, whose amounts keep the limit of 1,000,000 and at times come up to it.
@@ -83,7 +85,7 @@ impl Draws<'_> {
             self.wires(units)?
         };
         Ok(Draft {
-            ranked: self.ranked,
+            kind: self.kind,
             codes,
             wires,
         })

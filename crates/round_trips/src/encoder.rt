@@ -2,6 +2,7 @@
 ghost use Rattle.std.specs.Prelude.{◌≤◌};
 
 use crate::drafts::Draft;
+use samples::wire::WeightKind;
 use std::alloc::{AllocError, Global};
 
 // A number in so many bytes, low byte first.
@@ -16,7 +17,10 @@ pub fn encode(heap: Global, draft: &Draft, issue: u16) -> Result<Vec<u8>, AllocE
     let mut bytes = Vec::new(heap);
     bytes.extend_from_slice(&[0x48, 0x4E, 0x57])?;
     push_number(&mut bytes, issue as usize, 2)?;
-    push_number(&mut bytes, if draft.ranked { 2 } else { 1 }, 1)?;
+    bytes.push(match draft.kind {
+        WeightKind::Plain => 1,
+        WeightKind::Ranked => 2,
+    })?;
     push_number(&mut bytes, draft.codes.len(), 1)?;
     push_number(&mut bytes, draft.wires.len(), 2)?;
     for code in draft.codes.iter() {
@@ -30,7 +34,7 @@ pub fn encode(heap: Global, draft: &Draft, issue: u16) -> Result<Vec<u8>, AllocE
         push_number(&mut bytes, wire.ends.1, 1)?;
         bytes.push(u8::from(wire.serves))?;
         push_number(&mut bytes, wire.parts.0 as usize, 4)?;
-        if draft.ranked {
+        if draft.kind == WeightKind::Ranked {
             push_number(&mut bytes, wire.parts.1 as usize, 4)?;
         }
     }

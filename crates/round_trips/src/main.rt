@@ -4,11 +4,12 @@
 
 ghost use Rattle.plans.specs.Sound.{Sound};
 
-use crate::drafts::{Draft, Draws};
+use crate::drafts::Draws;
 use crate::trips::{Case, build};
 use plans::plan::{LINKS, Link, Plan};
 use samples::dice::Dice;
-use std::alloc::{AllocError, Global};
+use samples::wire::WeightKind;
+use std::alloc::AllocError;
 use std::fmt;
 use weights::plain::Plain;
 use weights::ranked::Ranked;
@@ -20,7 +21,8 @@ mod trips;
 
 const PLANS: usize = 200;
 
-#[derive(Drop)]
+// What the trips come to; the tally of random calls counts calls, and knows no trips and refusals.
+#[derive(Default, Drop)]
 struct Tally {
     trips: u64,
     refusals: u64,
@@ -46,61 +48,50 @@ impl fmt::Display for Tally {
 }
 
 // One plan in one issue: written into room enough, exactly enough and one byte too little, read back and written again.
-fn trip<W: Weight>(
-    heap: Global,
-    plan: &mut Plan<W>,
-    draft: &Draft,
-    issue: u16,
-    tally: &mut Tally,
-) -> Result<(), AllocError>
+fn trip<W: Weight>(plan: &mut Plan<W>, case: &Case, tally: &mut Tally) -> Result<(), AllocError>
     requires { Sound W.Weight plan.old }
     ensures { Sound W.Weight plan.new }
 {
-    tally.note(build(plan, draft).is_ok());
-    let case = Case::new(heap, draft, issue)?;
+    tally.note(build(plan, case.draft).is_ok());
     let size = case.sheet.len();
-    tally.note(case.writes(heap, plan, size.saturating_add(5))?);
-    tally.note(case.writes(heap, plan, size)?);
-    tally.note(case.writes(heap, plan, size.saturating_sub(1))?);
+    for room in [size.saturating_add(5), size, size.saturating_sub(1)] {
+        tally.note(case.writes(plan, room)?);
+    }
     if case.refusal(size).is_some() {
         tally.refusals = tally.refusals.saturating_add(1);
         return Ok(());
     }
     plan.clear();
     tally.note(case.reads(plan));
-    tally.note(case.writes(heap, plan, size)?);
+    tally.note(case.writes(plan, size)?);
     tally.trips = tally.trips.saturating_add(1);
     Ok(())
 }
 
 // The plans of one weight kind.
-fn run<W: Weight>(
-    heap: Global,
-    dice: &mut Dice,
-    ranked: bool,
-    tally: &mut Tally,
-) -> Result<(), AllocError> {
+fn run<W: Weight>(draws: &mut Draws, tally: &mut Tally) -> Result<(), AllocError> {
+    let heap = draws.heap;
     let mut memory = vec![in heap; Link::<W>::blank(); LINKS]?;
     let mut plan = Plan::open(memory.as_mut_slice());
-    let mut draws = Draws { heap, dice, ranked };
     for _ in 0..PLANS {
         let draft = draws.draft()?;
         for issue in [1, 2, 3, 257] {
-            trip(heap, &mut plan, &draft, issue, tally)?;
+            trip(&mut plan, &Case::new(heap, &draft, issue)?, tally)?;
         }
     }
     Ok(())
 }
 
 fn main(rt: HostRuntime) -> anyhow::Result<()> {
-    let mut tally = Tally {
-        trips: 0,
-        refusals: 0,
-        deviations: 0,
+    let mut tally = Tally::default();
+    let mut draws = Draws {
+        heap: rt.alloc(),
+        dice: Dice::new(30_000),
+        kind: WeightKind::Plain,
     };
-    let mut dice = Dice::new(30_000);
-    run::<Plain>(rt.alloc(), &mut dice, false, &mut tally)?;
-    run::<Ranked>(rt.alloc(), &mut dice, true, &mut tally)?;
+    run::<Plain>(&mut draws, &mut tally)?;
+    draws.kind = WeightKind::Ranked;
+    run::<Ranked>(&mut draws, &mut tally)?;
     println!(rt; "{tally}")?;
     Ok(())
 }

@@ -14,7 +14,8 @@ use writers::write::write;
 // A draft in one issue, with the bytes that its sheet is to have.
 #[derive(Drop)]
 pub struct Case<'a> {
-    draft: &'a Draft,
+    heap: Global,
+    pub draft: &'a Draft,
     issue: u16,
     pub sheet: Vec<u8>,
 }
@@ -65,6 +66,7 @@ impl<'a> Case<'a> {
     pub fn new(heap: Global, draft: &'a Draft, issue: u16) -> Result<Case<'a>, AllocError> {
         let sheet = encode(heap, draft, issue)?;
         Ok(Case {
+            heap,
             draft,
             issue,
             sheet,
@@ -77,16 +79,11 @@ impl<'a> Case<'a> {
     }
 
     // Whether write into so many bytes answers and leaves what the encoder says.
-    pub fn writes<W: Weight>(
-        &self,
-        heap: Global,
-        plan: &Plan<W>,
-        room: usize,
-    ) -> Result<bool, AllocError>
+    pub fn writes<W: Weight>(&self, plan: &Plan<W>, room: usize) -> Result<bool, AllocError>
         requires { Sound W.Weight plan.now }
     {
         let sheet = self.sheet.as_slice();
-        let mut bytes = vec![in heap; UNTOUCHED; room]?;
+        let mut bytes = vec![in self.heap; UNTOUCHED; room]?;
         let reply = write(plan, self.issue, bytes.as_mut_slice());
         Ok(match (reply, self.refusal(room)) {
             (Ok(size), None) => size == sheet.len() && holds(bytes.as_slice(), sheet),

@@ -1,8 +1,8 @@
-// Numbers that look random, and codes by number.
+// Numbers that look random, the same in every run.
 ghost use Rattle.std.specs.Prelude.{◌≡◌, ℕ, ◌<◌, ◌≤◌, ◌↔◌, IsTrue};
 ghost use Rattle.samples.specs.Numbers.{following, reduced};
 
-// Numbers that look random, the same in every run.
+// Where the sequence of numbers stands.
 #[derive(Drop)]
 pub struct Dice {
     state: u64,

@@ -1,4 +1,4 @@
-// Links as plain values, apart from the library's own.
+// Links and weight kinds as plain values, apart from the library's own.
 ghost use Rattle.std.specs.Prelude.{◌≡◌, ◌↔◌, All, IsTrue, length};
 ghost use Rattle.std.specs.List.{zip};
 ghost use Rattle.plans.specs.Model.{code_of};
@@ -6,6 +6,13 @@ ghost use Rattle.samples.specs.Wires.{parts_of, wire_of};
 
 use plans::plan::{Link, Unit};
 use weights::weight::Weight;
+
+// The kinds of weights.
+#[derive(Clone, Copy, PartialEq, Eq, Debug)]
+pub enum WeightKind {
+    Plain,
+    Ranked,
+}
 
 // The parts of a weight, of which the second is 0 at the plain kind.
 pub type Parts = (u32, u32);
