@@ -1,4 +1,4 @@
-// What the tests share: filings over memory of their own, and what is seen of them.
+// What the tests share: filings over memory of their own, lent from the stack, and what is seen of them.
 ghost use Rattle.std.specs.Prelude.{ℕ, ◌≤◌};
 ghost use Rattle.plans.specs.Sound.{Sound};
 ghost use Rattle.weights.specs.contracts.plain.PlainWeight.TheImpl.{ghosts as plainKind};
@@ -19,7 +19,8 @@ use std::test::Fail;
 use weights::plain::Plain;
 use weights::weight::Weight;
 
-// An answer, with the memory that was lent for it: six marks and six entries.
+// An answer, with the memory that was lent for it: six marks and six entries. They are compared whole, since what is
+// past the units and the mergers is to stay as it was.
 #[derive(Clone, Copy, PartialEq, Eq, Debug)]
 pub struct Seen {
     pub figure: u32,
@@ -80,7 +81,7 @@ pub const KEPT: Seen = Seen {
 };
 
 // Units 0, 1 and 2, each linked by 1 to 3, 4 and 5.
-pub const THREE_BY_THREE: [(usize, usize, u32); 9] = [
+pub const THREE_BY_THREE: &[(usize, usize, u32)] = &[
     (0, 3, 1),
     (0, 4, 1),
     (0, 5, 1),
@@ -113,7 +114,7 @@ pub enum Step {
     // an edit is refused with a number
     Refuse(Edit, u8),
     // weigh answers so, or is refused with a number
-    Weigh([u8; 4], Result<u32, u8>),
+    Weigh(&'static [u8], Result<u32, u8>),
     // the trial of a link gives this figure, or is refused with a number
     Trial(usize, Result<u32, u8>),
     // weakest answers with this kept flag and figure
@@ -239,9 +240,9 @@ fn is_example(filing: &Filing<Plain>) -> bool
     let codes = plan
         .units()
         .iter()
-        .zip(&CODES)
+        .zip(CODES)
         .all(|(unit, code)| unit.code.text() == code.as_slice());
-    let links = plan.links().iter().zip(&LINKS).all(|(link, joint)| {
+    let links = plan.links().iter().zip(LINKS).all(|(link, joint)| {
         let ends = (link.first as usize, link.second as usize);
         link.in_service && (ends.0, ends.1, link.weight.amount()) == *joint
     });
@@ -325,7 +326,7 @@ fn take(rt: &impl Abort, filing: &mut Filing<Plain>, step: Step) -> Result<(), F
             Ok(())
         },
         Step::Weigh(marks, outcome) => {
-            assert_eq!(rt; weighed(filing, &marks), outcome);
+            assert_eq!(rt; weighed(filing, marks), outcome);
             Ok(())
         },
         Step::Trial(link, outcome) => {

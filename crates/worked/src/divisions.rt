@@ -16,7 +16,7 @@ use weights::weight::Weight;
 
 #[test]
 fn four_units(rt: HostRuntime) -> Result<(), Fail> {
-    assert_eq!(rt; worked_out(4, &LINKS)?, BEGUN);
+    assert_eq!(rt; worked_out(4, LINKS)?, BEGUN);
     play(&rt, &[Step::Begin, Step::Unchanged])
 }
 
@@ -86,7 +86,7 @@ fn three_by_three(rt: HostRuntime) -> Result<(), Fail> {
         scans: 1,
         kept: false,
     };
-    assert_eq!(rt; worked_out(6, &THREE_BY_THREE)?, expected);
+    assert_eq!(rt; worked_out(6, THREE_BY_THREE)?, expected);
     Ok(())
 }
 
@@ -109,7 +109,7 @@ fn weakest_ranked(filing: &mut Filing<Ranked>) -> Result<((u32, u32), [u8; 3]), 
 fn ranked(rt: HostRuntime) -> Result<(), Fail> {
     let mut memory = [Link::<Ranked>::blank(); 512];
     let mut filing = Filing::open(&mut memory);
-    filing.read(&RANKED_SHEET)?;
+    filing.read(RANKED_SHEET)?;
     assert_eq!(rt; weakest_ranked(&mut filing)?, ((0, 14), [0, 0, 1]));
     Ok(())
 }

@@ -127,16 +127,16 @@ fn weigh(rt: HostRuntime) -> Result<(), Fail> {
         &rt,
         &[
             Step::Make(Edit::Enter(*b"U10000")),
-            Step::Weigh([2, 2, 2, 2], Err(15)),
+            Step::Weigh(&[2, 2, 2, 2], Err(15)),
             Step::Make(Edit::Enter(*b"U10001")),
-            Step::Weigh([0, 0, 0, 0], Err(14)),
+            Step::Weigh(&[0, 0, 0, 0], Err(14)),
             Step::Begin,
-            Step::Weigh([0, 0, 0, 2], Err(14)),
-            Step::Weigh([0, 0, 0, 0], Err(15)),
-            Step::Weigh([1, 1, 1, 1], Err(15)),
-            Step::Weigh([1, 1, 0, 0], Ok(3)),
+            Step::Weigh(&[0, 0, 0, 2], Err(14)),
+            Step::Weigh(&[0, 0, 0, 0], Err(15)),
+            Step::Weigh(&[1, 1, 1, 1], Err(15)),
+            Step::Weigh(&[1, 1, 0, 0], Ok(3)),
             // all four links are cut
-            Step::Weigh([0, 1, 0, 1], Ok(10)),
+            Step::Weigh(&[0, 1, 0, 1], Ok(10)),
             Step::Unchanged,
         ],
     )

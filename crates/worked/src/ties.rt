@@ -13,7 +13,7 @@ fn by_choice(tie: Tie) -> Result<Seen, Refusal> {
     let mut memory = [Link::<Plain>::blank(); 512];
     let mut filing = Filing::open(&mut memory);
     enter_units(&mut filing, 6)?;
-    join(&mut filing, &THREE_BY_THREE)?;
+    join(&mut filing, THREE_BY_THREE)?;
     let mut queue = TiedQueue::<Plain>::new(tie);
     asked(&mut filing, &mut queue, None)
 }
