@@ -41,9 +41,6 @@ module _ {V : Type 0} (K : Kind V) (n : ℕ) (ls : List (Link V)) (es : List Ent
   failed : (ground : Ground) → Found false ground → Meets K n ls es best u v ground → ⊥
   failed ground (test, decides, came) = not_from_Decides test decides came
 
-  pub heavy_judged : Found true Heavy → Judged K n ls es best u v (Some Heavy)
-  heavy_judged m = (met Heavy m, each (NotLower Heavy) (λ o lt. omega arith) (λ o lt. omega arith) (λ o lt. omega arith) (λ o lt. omega arith) (λ o lt. omega arith))
-
   pub unbalanced_judged : Found false Heavy → Found true Unbalanced → Judged K n ls es best u v (Some Unbalanced)
   unbalanced_judged a m = (met Unbalanced m, each (NotLower Unbalanced) (λ o lt. failed Heavy a o) (λ o lt. omega arith) (λ o lt. omega arith) (λ o lt. omega arith) (λ o lt. omega arith))
 
@@ -90,7 +87,7 @@ neighbourhood_decided K n ls es best u v k s r sum all t = Decides-at r _ (t ∙
 
 -- the two tests that look at no third group
 module _ {W : Type 0} {g : Ghosts W} {n : ℕ} {ls : List (Link g.Value)} {es : List Entry} {table : List W} {groups : Groups} (laws : Lawful (kind_of g)) (ex : Explains g n ls es table groups) {u v : ℕ} (pair : Standing groups n u v) (best x : g.Value) (here : x ≡ at g table n u v) where
-  pub heavy_decided : (r : Bool) → r ≡ g.le best x → Decides r (Meets (kind_of g) n ls es best u v Heavy)
+  heavy_decided : (r : Bool) → r ≡ g.le best x → Decides r (Meets (kind_of g) n ls es best u v Heavy)
   heavy_decided r t = Decides-at r _ (t ∙ ap (g.le best) (here ∙ joint_at ex pair)) (itself _)
 
   unbalanced_decided : (a b : g.Value) (r : Bool) → a ≡ at g table n u u → b ≡ at g table n v v → (g.size x + g.size x ≤ limit → r ≡ (g.le a (g.plus x x) || g.le b (g.plus x x))) → Decides r (Meets (kind_of g) n ls es best u v Unbalanced)

@@ -1,12 +1,6 @@
 use Rattle.cuts.specs.Kinds.{kind_of}
-use Rattle.passes.proofs.Grounds.{heavy_judged, unbalanced_judged, triangle_judged, neighbourhood_judged, none_judged, heavy_decided, two_decided}
+use Rattle.passes.proofs.Grounds.{unbalanced_judged, triangle_judged, neighbourhood_judged, none_judged, two_decided}
 use Rattle.passes.proofs.pairs.ground_of.Goals as goal
-
-pub returns-then-at_most : goal.returns-then-at_most
-returns-then-at_most g c = λ ls es ex pair.
-    let best = g.W.Weight.value c.args.best in
-    let heavy = heavy_decided g.met.W.Weight.laws ex pair best _ c.entry-joint.ensures.value _ c.at_most.ensures in
-    heavy_judged (kind_of g.W.Weight) c.args.graph.now.groups.now.units ls es best c.args.u c.args.v (_, heavy, c.if-at_most.true)
 
 pub returns-then-is_unbalanced : goal.returns-then-is_unbalanced
 returns-then-is_unbalanced g c = λ ls es ex pair.

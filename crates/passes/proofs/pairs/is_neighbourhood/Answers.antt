@@ -1,13 +1,10 @@
-use Rattle.std.proofs.Common.{◌≡◌, true, false, ◌∙◌, arith}
+use Rattle.std.proofs.Common.{◌≡◌, true, false, arith}
 use Rattle.cuts.specs.Kinds.{kind_of}
-use Rattle.passes.proofs.Readings.{third_mark, third_marked, joint_at, gathered_skip}
+use Rattle.passes.proofs.Readings.{third_mark, third_marked, gathered_skip}
 use Rattle.passes.proofs.Fits.{gathered_added}
 use Rattle.passes.proofs.Grounds.{neighbourhood_decided}
 use Rattle.passes.proofs.pairs.is_neighbourhood.Goals as goal
 use Rattle.passes.proofs.pairs.is_neighbourhood.Goals.{then-is_third, else-is_third}
-
-pub loop-w-init : goal.loop-w-init
-loop-w-init g c = λ ls es ex pair. c.entry-sum.ensures.value ∙ joint_at ex pair
 
 pub loop-w-preserved : goal.loop-w-preserved
 loop-w-preserved g c = λ ls es ex pair.
