@@ -6,11 +6,10 @@ ghost use Rattle.plans.specs.Calls.{most_total};
 ghost use Rattle.plans.specs.Marks.{Shows};
 ghost use Rattle.plans.specs.Model.{total_of};
 ghost use Rattle.plans.specs.Sound.{Joins};
-ghost use Rattle.tables.specs.Meaning.{Holds};
+ghost use Rattle.tables.specs.Meaning.{HoldsIn};
 
 use plans::plan::Link;
-use rows::rows::add_link;
-use tables::table::clear;
+use tables::table::Table;
 use weights::weight::Weight;
 
 // Copies out the marks of links, 1 for in service and 0 for out.
@@ -25,26 +24,20 @@ pub fn copy_marks<W: Weight>(links: &[Link<W>], marks: &mut [u8])
     }
 }
 
-// The table of n units becomes that of the links whose mark, which stands beside them, is 1.
-pub fn fill<W: Weight>(table: &mut [W], n: usize, links: &[Link<W>], marks: &[u8])
-    requires most { n ≤ 64 }
-    requires size { n * n ≤ length table.old }
+// The table becomes that of the links whose mark, which stands beside them, is 1.
+pub fn fill<W: Weight>(table: &mut Table<W>, links: &[Link<W>], marks: &[u8])
     requires marks { length links.now ≤ length marks.now }
-    requires ends { AllWithin (Joins W.Weight n) links.now 0 (length links.now) }
-    ensures holds { total_of W.Weight links.now ≤ most_total → Holds W.Weight n (served W.Weight marks.now links.now) [] table.new }
-    ensures rest { drop (n * n) table.new ≡ drop (n * n) table.old }
+    requires ends { AllWithin (Joins W.Weight table.old.units) links.now 0 (length links.now) }
+    ensures units { table.new.units ≡ table.old.units }
+    ensures memory { table.new.weights.ghost_name ≡ table.old.weights.ghost_name }
+    ensures holds { total_of W.Weight links.now ≤ most_total → HoldsIn W.Weight (served W.Weight marks.now links.now) [] table.new }
+    ensures rest { drop (table.old.units * table.old.units) table.new.weights.now ≡ drop (table.old.units * table.old.units) table.old.weights.now }
 {
-    clear(table, n * n);
+    table.clear();
     for (link, mark) in links.iter().zip(marks) {
         if *mark != 1 {
             continue;
         }
-        add_link(
-            table,
-            n,
-            link.first as usize,
-            link.second as usize,
-            link.weight,
-        );
+        table.add_link(link.first as usize, link.second as usize, link.weight);
     }
 }

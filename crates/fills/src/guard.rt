@@ -5,10 +5,11 @@ ghost use Rattle.fills.specs.Served.{served};
 ghost use Rattle.plans.specs.Calls.{most_total};
 ghost use Rattle.plans.specs.Model.{total_of};
 ghost use Rattle.plans.specs.Sound.{Joins};
-ghost use Rattle.tables.specs.Meaning.{Holds};
+ghost use Rattle.tables.specs.Meaning.{HoldsIn};
 
 use crate::fill::fill;
 use plans::plan::Link;
+use tables::table::Table;
 use weights::weight::Weight;
 
 // The lent marks, the index of the one that is out, and what it was.
@@ -34,37 +35,36 @@ impl Drop for MarkGuard<'_> {
 
 impl<'a> MarkGuard<'a> {
     // Fills the weight table by the marks as they stand now.
-    fn fill<W: Weight>(&self, table: &mut [W], n: usize, links: &[Link<W>])
-        requires most { n ≤ 64 }
-        requires size { n * n ≤ length table.old }
+    fn fill<W: Weight>(&self, table: &mut Table<W>, links: &[Link<W>])
         requires marks { length links.now ≤ length self.now.marks.now }
-        requires ends { AllWithin (Joins W.Weight n) links.now 0 (length links.now) }
-        ensures holds { total_of W.Weight links.now ≤ most_total → Holds W.Weight n (served W.Weight self.entry.now.marks.now links.now) [] table.new }
-        ensures rest { drop (n * n) table.new ≡ drop (n * n) table.old }
+        requires ends { AllWithin (Joins W.Weight table.old.units) links.now 0 (length links.now) }
+        ensures units { table.new.units ≡ table.old.units }
+        ensures memory { table.new.weights.ghost_name ≡ table.old.weights.ghost_name }
+        ensures holds { total_of W.Weight links.now ≤ most_total → HoldsIn W.Weight (served W.Weight self.entry.now.marks.now links.now) [] table.new }
+        ensures rest { drop (table.old.units * table.old.units) table.new.weights.now ≡ drop (table.old.units * table.old.units) table.old.weights.now }
     {
-        fill(table, n, links, self.marks)
+        fill(table, links, self.marks)
     }
 }
 
-// The table of n units becomes that of the links with one of them out of service, whatever its mark; the marks end as they were.
+// The table becomes that of the links with one of them out of service, whatever its mark; the marks end as they were.
 pub fn fill_without<W: Weight>(
-    table: &mut [W],
-    n: usize,
+    table: &mut Table<W>,
     links: &[Link<W>],
     marks: &mut [u8],
     index: usize,
 )
-    requires most { n ≤ 64 }
-    requires size { n * n ≤ length table.old }
     requires marks { length links.now ≤ length marks.old }
-    requires ends { AllWithin (Joins W.Weight n) links.now 0 (length links.now) }
+    requires ends { AllWithin (Joins W.Weight table.old.units) links.now 0 (length links.now) }
     requires index { index < length marks.old }
     ensures same { marks.new ≡ marks.old }
-    ensures holds { total_of W.Weight links.now ≤ most_total → Holds W.Weight n (served W.Weight (slice_set marks.old index 0) links.now) [] table.new }
-    ensures rest { drop (n * n) table.new ≡ drop (n * n) table.old }
+    ensures units { table.new.units ≡ table.old.units }
+    ensures memory { table.new.weights.ghost_name ≡ table.old.weights.ghost_name }
+    ensures holds { total_of W.Weight links.now ≤ most_total → HoldsIn W.Weight (served W.Weight (slice_set marks.old index 0) links.now) [] table.new }
+    ensures rest { drop (table.old.units * table.old.units) table.new.weights.now ≡ drop (table.old.units * table.old.units) table.old.weights.now }
 {
     let old = marks[index];
     let guard = MarkGuard { marks, index, old };
     guard.marks[index] = 0;
-    guard.fill(table, n, links)
+    guard.fill(table, links)
 }
