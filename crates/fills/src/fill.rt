@@ -1,5 +1,5 @@
 // Fills the weight table from a plan's links and a table of their marks.
-ghost use Rattle.std.specs.Prelude.{◌≡◌, ℕ, ◌+◌, ◌*◌, ◌<◌, ◌≤◌, [], length, drop};
+ghost use Rattle.std.specs.Prelude.{◌≡◌, ◌*◌, ◌≤◌, [], length, drop};
 ghost use Rattle.std.specs.List.{AllWithin};
 ghost use Rattle.fills.specs.Served.{served};
 ghost use Rattle.plans.specs.Calls.{most_total};

@@ -1,5 +1,5 @@
 // A link's mark that is put out while the weight table is filled, and then put back.
-ghost use Rattle.std.specs.Prelude.{◌≡◌, ℕ, ◌*◌, ◌<◌, ◌≤◌, [], length, drop, slice_set};
+ghost use Rattle.std.specs.Prelude.{◌≡◌, ◌*◌, ◌<◌, ◌≤◌, [], length, drop, slice_set};
 ghost use Rattle.std.specs.List.{AllWithin};
 ghost use Rattle.fills.specs.Served.{served};
 ghost use Rattle.plans.specs.Calls.{most_total};
