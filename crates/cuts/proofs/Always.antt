@@ -14,6 +14,7 @@ use Rattle.cuts.specs.Tests.{Meets, Pair, First, None}
 use Rattle.cuts.specs.Scans.{has, key, Order, Complete}
 use Rattle.cuts.specs.Records.{Point, merger, best_weight, ended, merge, scanned, Work, begin, test, scan}
 use Rattle.cuts.specs.Claims.{RecordExists}
+use Rattle.cuts.proofs.Moves.{least_below}
 use Rattle.cuts.proofs.Counts.{but, count_same, count_but}
 use Rattle.cuts.proofs.Names.{stands_less}
 use Rattle.cuts.proofs.Mergers.{fit_weight, length_more}
@@ -22,15 +23,6 @@ use Rattle.cuts.proofs.Works.{work_named}
 use Rattle.cuts.proofs.Finds.{scan_merges_lem}
 use Rattle.cuts.proofs.Brute.{any_below, any_true, any_false}
 use Rattle.cuts.proofs.Replays.{meets, meets_sound, meets_not, pair, pair_sound, pair_from}
-
--- the least number below n that passes, or none does
-least_below : (n : ℕ) (f : ℕ → Bool) → ((x : ℕ) × (x < n) × (f x ≡ true) × ((y : ℕ) → y < x → f y ≡ false)) ⊎ ((x : ℕ) → x < n → f x ≡ false)
-least_below zero f = inr (λ x l. absurd (omega arith))
-least_below (suc n) f =
-    ⊎_elim (λ r. inl (r.0, omega (arith, r.1), r.2, r.3))
-    (λ (none : (x : ℕ) → x < n → f x ≡ false). ⊎_elim (λ (e : f n ≡ true). inl (n, omega arith, e, none))
-    (λ (e : f n ≡ false). inr (λ x l. ⊎_elim (λ (k : x < n). none x k) (λ (g : n ≤ x). let is : x ≡ n = omega arith in ap f is ∙ e) (cases_lt x n))) (cases_Bool (f n)))
-    (least_below n f)
 
 module _ {V : Type 0} (K : Kind V) (laws : Lawful K) (f : ℕ → V) (fit : (x : ℕ) → K.amount (f x) ≤ limit) where
   level : (x : ℕ) → AtMost K (f x) (f x)

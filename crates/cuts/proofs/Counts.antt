@@ -3,7 +3,7 @@ use Rattle.std.proofs.Common.{◌≡◌, ℕ, zero, suc, ◌+◌, ◌<◌, ◌�
 use Rattle.std.proofs.lemmas.Bool.Decides.{nat_tests}
 use Rattle.std.proofs.lemmas.Bool.{cases_eq}
 use Rattle.cuts.specs.Groups.{one, count_below}
-use Rattle.cuts.proofs.Moves.{find_below}
+use Rattle.cuts.proofs.Moves.{least_below}
 
 -- those but w
 abbrev pub but : (ℕ → Bool) → ℕ → ℕ → Bool
@@ -52,7 +52,7 @@ one_more n P u v lu lv pu pv apart many =
     let b = count_but n (but P u) v lv (grind (arith, nat_tests)) in
     let c = count_none n (but (but P u) v) none in
     absurd (omega arith))
-    (find_below n (but (but P u) v))
+    (least_below n (but (but P u) v))
 
 -- some member is not g, where there are more than one
 pub another : (n : ℕ) (P : ℕ → Bool) (g : ℕ) → g < n → P g ≡ true → 1 < count_below n P → (w : ℕ) × (w < n) × (P w ≡ true) × (w ≡ g → ⊥)
@@ -60,7 +60,7 @@ another n P g lg pg many =
     ⊎_elim
     (λ r. let w = r.0 in let h = r.2 in (w, r.1, grind (arith, nat_tests), grind (arith, nat_tests)))
     (λ none. let a = count_but n P g lg pg in let c = count_none n (but P g) none in absurd (omega arith))
-    (find_below n (but P g))
+    (least_below n (but P g))
 
 -- where there are at most two, each is one of them
 pub two_left : (n : ℕ) (P : ℕ → Bool) (a b : ℕ) → a < n → b < n → P a ≡ true → P b ≡ true → (a ≡ b → ⊥) → count_below n P ≤ 2 → (g : ℕ) → g < n → P g ≡ true → (g ≡ a) ⊎ (g ≡ b)

@@ -23,9 +23,6 @@ whole_more : (n : ℕ) (es : List Entry) (e : Entry) (S : ℕ → Bool) → Name
 whole_more n es e S names whole same =
     own_whole n (es ++ (e ∷ [])) S (λ x. whole_own n es S names whole x ∙ same_side S e.low e.high (after es x) same ∙ ap S (sym (after_more es e x)))
 
-at_most_either : (j k : ℕ) → (j ≤ k) ⊎ (k ≤ j)
-at_most_either j k = ⊎_elim (λ (l : j < k). inl (omega arith)) inr (cases_lt j k)
-
 -- of two groups one is on each side
 one_side : (S : ℕ → Bool) (g k z : ℕ) → (z ≡ g) ⊎ (z ≡ k) → S g ≡ true → S k ≡ false → S z ≡ eqb z g
 one_side S g k z is sg sk = grind (arith, nat_tests)
@@ -119,10 +116,10 @@ module _ {V : Type 0} (K : Kind V) (laws : Lawful K) (n : ℕ) (ls : List (Link 
       reached =
           let (j, g, i, st, is) = best_stood K laws n ls sound two m in
           ⊎_elim
-          (λ (l : j ≤ k).
-          let same = take-take j k es l in
+          (λ (l : j < k).
+          let same = take-take j k es (omega arith) in
           let short = length-take k es in
           inl (j, g, omega arith, subst (λ d. stands n d g ≡ true) (sym same) st, ap (weight_of K ls) is ∙ ap (λ d. degree K ls d g) (sym same)))
           (λ (l : k ≤ j). inr (group (take j es) g, so_far_division j g i st, later_whole es k j g l, ap (weight_of K ls) is))
-          (at_most_either j k);
+          (cases_lt j k);
     }

@@ -3,7 +3,7 @@ use Rattle.std.proofs.Common.{◌≡◌, ℕ, ◌+◌, ◌≤◌, Bool, true, fa
 use Rattle.std.proofs.lemmas.Bool.{cases_Bool}
 use Rattle.weights.specs.Laws.{limit}
 use Rattle.cuts.specs.Kinds.{Kind, Lawful, AtMost}
-use Rattle.cuts.specs.Links.{Link, sum, load, Ends}
+use Rattle.cuts.specs.Links.{Link, sum, load}
 use Rattle.cuts.specs.Divisions.{Division, differ, weight_of, Weakest}
 use Rattle.cuts.specs.Edits.{reweighed, marked, OneSide, DifferentSides, adds, ChangeKeeps, EditsKeep}
 use Rattle.cuts.proofs.Sums.{same, left_comm}
@@ -18,11 +18,6 @@ load_split : {V : Type 0} (K : Kind V) (ps qs : List (Link V)) (l : Link V) → 
 unfolding load
 load_split K [] qs l = refl
 load_split K (p ∷ ps) qs l = let ih = load_split K ps qs l in omega arith
-
-ends_split : {V : Type 0} (n : ℕ) (ps qs : List (Link V)) (l : Link V) → Ends n (ps ++ (l ∷ qs)) → Ends n (ps ++ qs)
-unfolding Ends
-ends_split n [] qs l e = e.2
-ends_split n (p ∷ ps) qs l e = (e.0, e.1, ends_split n ps qs l e.2)
 
 module _ {V : Type 0} (K : Kind V) (laws : Lawful K) where
   adds_amount : (l : Link V) → K.amount (adds K l) ≡ size K l
@@ -88,9 +83,6 @@ differ_apart a b e = grind arith
 
 module _ {V : Type 0} (K : Kind V) (laws : Lawful K) (n : ℕ) (S : ℕ → Bool) (ps qs : List (Link V)) (l m : Link V) (e₁ : m.first ≡ l.first) (e₂ : m.second ≡ l.second)
     (light-l : load K (ps ++ (l ∷ qs)) + load K (ps ++ (l ∷ qs)) ≤ limit) (light-m : load K (ps ++ (m ∷ qs)) + load K (ps ++ (m ∷ qs)) ≤ limit) (weakest : Weakest K n (ps ++ (l ∷ qs)) S) where
-  base : (ℕ → Bool) → V
-  base D = weight_of K (ps ++ qs) D
-
   fit : (k : Link V) → load K (ps ++ (k ∷ qs)) + load K (ps ++ (k ∷ qs)) ≤ limit → (D : ℕ → Bool) → K.amount (weight_of K (ps ++ (k ∷ qs)) D) ≤ limit
   fit k light D = let a = sum_amount K laws (λ x y. differ (D x) (D y)) (ps ++ (k ∷ qs)) (omega arith) in omega arith
 

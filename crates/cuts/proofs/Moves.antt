@@ -1,5 +1,5 @@
 -- Moving one group to the other side of a division, over links between groups.
-use Rattle.std.proofs.Common.{◌≡◌, ℕ, zero, suc, ◌+◌, ◌<◌, ◌≤◌, Bool, true, false, cond, not, ◌&&◌, eqb, ◌⊎◌, List, [], ◌∷◌, sym, ◌∙◌, inl, inr, ⊎_elim, arith}
+use Rattle.std.proofs.Common.{◌≡◌, ℕ, zero, suc, ◌+◌, ◌<◌, ◌≤◌, Bool, true, false, cond, not, ◌&&◌, eqb, ◌⊎◌, List, [], ◌∷◌, sym, ap, ◌∙◌, inl, inr, ⊎_elim, arith}
 use Rattle.std.proofs.lemmas.Bool.Decides.{nat_tests}
 use Rattle.std.proofs.lemmas.Bool.{cases_lt, cases_Bool}
 use Rattle.weights.specs.Laws.{limit}
@@ -13,13 +13,14 @@ use Rattle.cuts.proofs.Points.{two_cuts, two_into, own, across, rest, own_across
 pub differing : (a b : Bool) → (a ≡ b) ⊎ (a ≡ b → ⊥)
 differing a b = grind arith
 
--- some number below n passes the test, or none does
-pub find_below : (n : ℕ) (p : ℕ → Bool) → ((a : ℕ) × (a < n) × (p a ≡ true)) ⊎ ((a : ℕ) → a < n → p a ≡ false)
-find_below zero p = inr (λ a h. absurd (omega arith))
-find_below (suc n) p =
-    ⊎_elim (λ (e : p n ≡ true). inl (n, omega arith, e))
-    (λ (ne : p n ≡ false). ⊎_elim (λ r. inl (r.0, omega (arith, r.1), r.2)) (λ (none : (a : ℕ) → a < n → p a ≡ false). inr (λ a h. ⊎_elim (λ (l : a < n). none a l) (λ (g : n ≤ a). let e : a ≡ n = omega arith in rw e ne) (cases_lt a n))) (find_below n p))
-    (cases_Bool (p n))
+-- the least number below n that passes, or none does
+pub least_below : (n : ℕ) (f : ℕ → Bool) → ((x : ℕ) × (x < n) × (f x ≡ true) × ((y : ℕ) → y < x → f y ≡ false)) ⊎ ((x : ℕ) → x < n → f x ≡ false)
+least_below zero f = inr (λ x l. absurd (omega arith))
+least_below (suc n) f =
+    ⊎_elim (λ r. inl (r.0, omega (arith, r.1), r.2, r.3))
+    (λ (none : (x : ℕ) → x < n → f x ≡ false). ⊎_elim (λ (e : f n ≡ true). inl (n, omega arith, e, none))
+    (λ (e : f n ≡ false). inr (λ x l. ⊎_elim (λ (k : x < n). none x k) (λ (g : n ≤ x). let is : x ≡ n = omega arith in ap f is ∙ e) (cases_lt x n))) (cases_Bool (f n)))
+    (least_below n f)
 
 -- some member of G on each side
 abbrev pub Splits : (ℕ → Bool) → (ℕ → Bool) → Type 0
@@ -76,7 +77,7 @@ module _ {V : Type 0} (K : Kind V) (laws : Lawful K) (ls : List (ℕ × ℕ × V
       let ga : G a ≡ true = grind (arith, nat_tests) in
       inr (moved u S, splits_at G (moved u S) a v ga gv (grind (arith, nat_tests)), grind (arith, nat_tests), h))
       (λ none. inl (rw (alone K ls S G u over (λ x gx far. let k = none x (bound x gx) in grind (arith, nat_tests))) low))
-      (find_below n (λ a. G a && (not (eqb a u) && cond (S u) (S a) (not (S a)))))
+      (least_below n (λ a. G a && (not (eqb a u) && cond (S u) (S a) (not (S a)))))
 
   module _ (n : ℕ) (G : ℕ → Bool) (best : V) (u v : ℕ) (fit : K.amount best ≤ limit) (bound : (x : ℕ) → G x ≡ true → x < n) (over : Over G ls) (low : (g : ℕ) → G g ≡ true → AtMost K best (deg K ls g)) (gu : G u ≡ true) (gv : G v ≡ true) where
     pub heavy_safe : AtMost K best (tie K ls u v) → Safe K ls G best u v
