@@ -6,12 +6,10 @@ ghost use Rattle.codes.specs.Code.{Code, is_code, fits_at, fits_from};
 pub fn fits(position: usize, character: char) -> bool
     ensures { result ≡ fits_at position character }
 {
-    match (position, character) {
-        (0, 'P' | 'C' | 'B' | 'U') => true,
-        (0, _) => false,
-        (_, 'A'..='Z' | '0'..='9') => true,
-        (_, _) => false,
-    }
+    matches!(
+        (position, character),
+        (0, 'P' | 'C' | 'B' | 'U') | (1.., 'A'..='Z' | '0'..='9')
+    )
 }
 
 // Whether each character fits its position.
@@ -28,8 +26,5 @@ pub fn is_code(text: &[u8]) -> bool
     ensures rule { Decides result (Code text.now) }
     ensures test { result ≡ is_code text.now }
 {
-    match text.len() {
-        6 | 7 => all_fit(text),
-        _ => false,
-    }
+    matches!(text.len(), 6 | 7) && all_fit(text)
 }

@@ -2,5 +2,5 @@ use Rattle.std.proofs.Common.{rules}
 use Rattle.codes.proofs.Decided.{decides_code}
 use Rattle.codes.proofs.rule.is_code.Goals as goal
 
-pub returns-in-6 : goal.returns-in-6
-returns-in-6 c = let h = decides_code c.args.text.now in search rules
+pub returns-then-matches : goal.returns-then-matches
+returns-then-matches c = let h = decides_code c.args.text.now in search rules
