@@ -8,10 +8,10 @@ use Rattle.std.proofs.lemmas.Map.{update_here, update_apart}
 use Rattle.queues.proofs.Slotted.{update_same}
 
 -- no entry is there and not there
-clash : {W P : Type 0} {o : Option W} {v : W} → o ≡ Some v → o ≡ None → P
+pub clash : {W P : Type 0} {o : Option W} {v : W} → o ≡ Some v → o ≡ None → P
 clash is e = let z : ◌≡◌ {A = ℕ} 0 1 = cc in absurd (omega arith)
 
-true_or : {P : Type 0} {f : Bool} → f ≡ true → f ≡ false → P
+pub true_or : {P : Type 0} {f : Bool} → f ≡ true → f ≡ false → P
 true_or a b = let z : true ≡ false = sym a ∙ b in absurd (grind arith)
 
 not_beaten : (b : Bool) → cond b false true ≡ false → b ≡ true
