@@ -2,8 +2,6 @@
 // refusals are compared with an encoder that is written separately from the byte format.
 #![tactic(auto)]
 
-ghost use Rattle.plans.specs.Sound.{Sound};
-
 use crate::drafts::Draws;
 use crate::trips::{Case, build};
 use plans::plan::{LINKS, Link, Plan};
@@ -48,10 +46,7 @@ impl fmt::Display for Tally {
 }
 
 // One plan in one issue: written into room enough, exactly enough and one byte too little, read back and written again.
-fn trip<W: Weight>(plan: &mut Plan<W>, case: &Case, tally: &mut Tally) -> Result<(), AllocError>
-    requires { Sound W.Weight plan.old }
-    ensures { Sound W.Weight plan.new }
-{
+fn trip<W: Weight>(plan: &mut Plan<W>, case: &Case, tally: &mut Tally) -> Result<(), AllocError> {
     tally.note(build(plan, case.draft).is_ok());
     let size = case.sheet.len();
     for room in [size.saturating_add(5), size, size.saturating_sub(1)] {

@@ -1,6 +1,4 @@
 // A draft as a plan, written, read back and written again.
-ghost use Rattle.plans.specs.Sound.{Sound};
-
 use crate::drafts::Draft;
 use crate::encoder::{encode, refusal};
 use plans::plan::Plan;
@@ -23,20 +21,14 @@ pub struct Case<'a> {
 // What the lent bytes hold before write.
 const UNTOUCHED: u8 = 0xA5;
 
-fn add_wire<W: Weight>(plan: &mut Plan<W>, wire: Wire) -> Result<(), Refusal>
-    requires { Sound W.Weight plan.old }
-    ensures { Sound W.Weight plan.new }
-{
+fn add_wire<W: Weight>(plan: &mut Plan<W>, wire: Wire) -> Result<(), Refusal> {
     let weight = W::from_parts(&[wire.parts.0, wire.parts.1])?;
     let link = plan.link(wire.ends.0, wire.ends.1, weight)?;
     plan.mark(link, u8::from(wire.serves))
 }
 
 // Makes the plan of a draft.
-pub fn build<W: Weight>(plan: &mut Plan<W>, draft: &Draft) -> Result<(), Refusal>
-    requires { Sound W.Weight plan.old }
-    ensures { Sound W.Weight plan.new }
-{
+pub fn build<W: Weight>(plan: &mut Plan<W>, draft: &Draft) -> Result<(), Refusal> {
     plan.clear();
     for code in draft.codes.iter() {
         plan.enter(code.as_slice())?;
@@ -48,9 +40,7 @@ pub fn build<W: Weight>(plan: &mut Plan<W>, draft: &Draft) -> Result<(), Refusal
 }
 
 // Whether a plan is the draft's.
-fn is_same<W: Weight>(plan: &Plan<W>, draft: &Draft) -> bool
-    requires { Sound W.Weight plan.now }
-{
+fn is_same<W: Weight>(plan: &Plan<W>, draft: &Draft) -> bool {
     bear_codes(plan.units(), draft.codes.as_slice())
         && are_wires(plan.links(), draft.wires.as_slice())
 }
@@ -79,9 +69,7 @@ impl<'a> Case<'a> {
     }
 
     // Whether write into so many bytes answers and leaves what the encoder says.
-    pub fn writes<W: Weight>(&self, plan: &Plan<W>, room: usize) -> Result<bool, AllocError>
-        requires { Sound W.Weight plan.now }
-    {
+    pub fn writes<W: Weight>(&self, plan: &Plan<W>, room: usize) -> Result<bool, AllocError> {
         let sheet = self.sheet.as_slice();
         let mut bytes = vec![in self.heap; UNTOUCHED; room]?;
         let reply = write(plan, self.issue, bytes.as_mut_slice());
@@ -93,10 +81,7 @@ impl<'a> Case<'a> {
     }
 
     // Whether the sheet reads back as the draft's plan.
-    pub fn reads<W: Weight>(&self, plan: &mut Plan<W>) -> bool
-        requires { Sound W.Weight plan.old }
-        ensures { Sound W.Weight plan.new }
-    {
+    pub fn reads<W: Weight>(&self, plan: &mut Plan<W>) -> bool {
         read(self.sheet.as_slice(), plan).is_ok() && is_same(plan, self.draft)
     }
 }
