@@ -31,15 +31,15 @@ pub record Coding {W : Type 0} (g : Ghosts W) (bs : List ℕ) (k : ℕ) (c : Cur
   pub texts : map code_of (take k us) ≡ texts_in bs k
 
 module _ {W : Type 0} (g : Ghosts W) (bs : List ℕ) where
-  pub code_read : (b a : Cursor) (k : ℕ) (i : Issue) (earlier : List (List ℕ)) (r : Result FaultCode Fault)
-      → Stands bs (code_place bs k) b → i ≡ issue_in bs → earlier ≡ texts_in bs k
-      → Took b (part.Unit k) (size_of_code i) (code_verdict k (text_of i (bytes_at b.bytes.now b.at (size_of_code i))) earlier) r a (λ c. bytes_of c ≡ text_of i (bytes_at b.bytes.now b.at (size_of_code i)))
+  pub code_read : (b a : Cursor) (k : ℕ) (i : Issue) (earlier : List Record) (r : Result FaultCode Fault)
+      → Stands bs (code_place bs k) b → i ≡ issue_in bs → length earlier ≡ k → map code_of earlier ≡ texts_in bs k
+      → Took b (part.Unit (length earlier)) (size_of_code i) (code_verdict (length earlier) (text_of i (bytes_at b.bytes.now b.at (size_of_code i))) (map code_of earlier)) r a (λ c. bytes_of c ≡ text_of i (bytes_at b.bytes.now b.at (size_of_code i)))
       → One g bs (code k) (code_place bs (k + 1)) r a (λ c. bytes_of c ≡ text_in bs k)
   unfolding fault_of
-  code_read b a k i earlier r s e h t =
-      let F : Issue → List (List ℕ) → Type 0 = λ j xs. Took b (part.Unit k) (size_of_code j) (code_verdict k (text_of j (bytes_at b.bytes.now b.at (size_of_code j))) xs) r a (λ c. bytes_of c ≡ text_of j (bytes_at b.bytes.now b.at (size_of_code j))) in
+  code_read b a k i earlier r s e n h t =
+      let F : Issue → ℕ → List (List ℕ) → Type 0 = λ j m xs. Took b (part.Unit m) (size_of_code j) (code_verdict m (text_of j (bytes_at b.bytes.now b.at (size_of_code j))) xs) r a (λ c. bytes_of c ≡ text_of j (bytes_at b.bytes.now b.at (size_of_code j))) in
       let j = issue_in bs in
-      let u = subst (λ xs. F j xs) h (subst (λ x. F x earlier) e t) in
+      let u = subst (λ xs. F j k xs) h (subst (λ m. F j m (map code_of earlier)) n (subst (λ x. F x (length earlier) (map code_of earlier)) e t)) in
       let v = at_place (λ x q. code_verdict k (text_of j (bytes_at x q (size_of_code j))) (texts_in bs k)) (λ x q c. bytes_of c ≡ text_of j (bytes_at x q (size_of_code j))) (part.Unit k) (size_of_code j) r b a bs (code_place bs k) (part.Unit k) s refl u in
       subst (λ n. One g bs (code k) n r a (λ c. bytes_of c ≡ text_in bs k)) (next_code bs k) v
 

@@ -51,6 +51,7 @@ impl<'a> Cursor<'a> {
     pub(crate) fn judged<T>(&self, judgement: Result<T, Refusal>, place: usize) -> Result<T, Fault>
         ensures { MatchResult judgement (λ x. result ≡ Ok x) (λ e. result ≡ Err (record { refusal = e; place = place; part = self.now.part })) }
     {
+        // Matched, and no `map_err`: of a closure that calls `fault`, a proof does not know what it answers.
         match judgement {
             Ok(value) => Ok(value),
             Err(refusal) => Err(self.fault(refusal, place)),

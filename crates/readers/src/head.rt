@@ -15,7 +15,8 @@ use sheets::head::MAGIC;
 use sheets::issue::Issue;
 use weights::weight::Weight;
 
-// What the head tells: the issue, and how many units and links follow.
+// What the head tells: the issue, and how many units and links follow. It stands beside the cursor that read it, which
+// goes on without it.
 #[derive(Clone, Copy)]
 pub struct Head {
     pub issue: Issue,

@@ -10,7 +10,7 @@ use crate::load::{load_links, load_units};
 use crate::records::read_link;
 use crate::unit_codes::read_codes;
 use codes::code::FaultCode;
-use plans::plan::{Plan, Unit};
+use plans::plan::{Plan, UNITS, Unit};
 use sheets::fault::Fault;
 use weights::weight::Weight;
 
@@ -38,7 +38,8 @@ pub fn read<W: Weight>(bytes: &[u8], plan: &mut Plan<W>) -> Result<(), Fault>
     let blank = Unit {
         code: FaultCode::blank(),
     };
-    let mut units = [blank; 64];
+    // No heap: memory for as many units as a plan may have. The head tells how many are read.
+    let mut units = [blank; UNITS];
     read_codes::<W>(&mut cursor, head, &mut units)?;
     let mut links = cursor;
     check_links::<W>(&mut cursor, head)?;

@@ -29,21 +29,16 @@ fn characters(issue: Issue, field: &[u8]) -> &[u8]
     }
 }
 
-// Reads the code of unit `k`: 7 if it is none, 8 if one of the first `k` units bears it.
-pub fn read_code(
-    cursor: &mut Cursor,
-    issue: Issue,
-    units: &[Unit],
-    k: usize,
-) -> Result<FaultCode, Fault>
-    requires { k ≤ length units.now }
-    ensures { Took cursor.old (Part.Unit k) (size_of_code issue) (code_verdict k (text_of issue (bytes_at cursor.old.bytes.now cursor.old.at (size_of_code issue))) (map code_of (take k units.now))) result cursor.new (λ c. bytes_of c ≡ text_of issue (bytes_at cursor.old.bytes.now cursor.old.at (size_of_code issue))) }
+// Reads the code of the unit that follows those read earlier: 7 if it is none, 8 if one of these bears it.
+pub fn read_code(cursor: &mut Cursor, issue: Issue, earlier: &[Unit]) -> Result<FaultCode, Fault>
+    ensures { Took cursor.old (Part.Unit (length earlier.now)) (size_of_code issue) (code_verdict (length earlier.now) (text_of issue (bytes_at cursor.old.bytes.now cursor.old.at (size_of_code issue))) (map code_of earlier.now)) result cursor.new (λ c. bytes_of c ≡ text_of issue (bytes_at cursor.old.bytes.now cursor.old.at (size_of_code issue))) }
 {
+    let k = earlier.len();
     cursor.enter(Part::Unit(k));
     let place = cursor.place();
     let field = cursor.field(issue.code_size())?;
     let code = cursor.judged(FaultCode::parse(characters(issue, field)), place)?;
-    if is_borne(units, k, code, k) {
+    if is_borne(earlier, k, code, k) {
         return Err(cursor.fault(Refusal::CodeTaken, place));
     }
     Ok(code)
@@ -61,8 +56,9 @@ pub fn read_codes<W: Weight>(
     requires count { head.units ≡ units_in cursor.old.bytes.now }
     ensures { Reads W.Weight cursor.old.bytes.now (code_fields (units_in cursor.old.bytes.now)) result cursor.new (code_place cursor.old.bytes.now (units_in cursor.old.bytes.now)) (λ _. map code_of (take (units_in cursor.old.bytes.now) units.new) ≡ texts_in cursor.old.bytes.now (units_in cursor.old.bytes.now)) }
 {
+    // By index, since the codes before a unit's own are read from the table that it is written to.
     for k in 0..head.units {
-        let code = read_code(cursor, head.issue, units, k)?;
+        let code = read_code(cursor, head.issue, &units[..k])?;
         units[k] = Unit { code };
     }
     Ok(())

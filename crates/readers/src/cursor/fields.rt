@@ -16,11 +16,11 @@ impl<'a> Cursor<'a> {
         ensures length { IfOk result (λ s. length s.now ≡ size) }
     {
         let place = self.at;
-        if self.bytes.len() - place < size {
+        let Some(field) = self.bytes[place..].get(..size) else {
             return Err(self.fault(Refusal::Truncated, place));
-        }
+        };
         self.at = place + size;
-        Ok(&self.bytes[place..place + size])
+        Ok(field)
     }
 
     // The next field of a fixed size.
@@ -40,7 +40,7 @@ impl<'a> Cursor<'a> {
         Ok(byte)
     }
 
-    // A number of two bytes, the low one first.
+    // A number of two bytes, the low one first. Two functions, since each type has a `from_le_bytes` of its own.
     pub fn two_bytes(&mut self) -> Result<u16, Fault>
         ensures { Took self.old self.old.part 2 accepted result self.new (λ n. (n ≡ two_at self.old.bytes.now self.old.at) × (bytes_at self.old.bytes.now self.old.at 2 ≡ two n)) }
     {
