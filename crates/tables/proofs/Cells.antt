@@ -1,6 +1,6 @@
 -- The values of a table's entries, and what a write changes.
-use Rattle.std.proofs.Common.{◌≡◌, ℕ, zero, suc, ◌+◌, ◌*◌, ◌/◌, ◌%◌, ◌<◌, List, [], ◌∷◌, ◌++◌, length, get_or, set, sym, refl, ap, ◌∙◌, arith}
-use Rattle.std.proofs.lemmas.Nat.{div-mul-add, mod-mul-add}
+use Rattle.std.proofs.Common.{◌≡◌, ℕ, zero, suc, ◌+◌, ◌*◌, ◌/◌, ◌%◌, ◌<◌, ◌≤◌, List, [], ◌∷◌, ◌++◌, length, get_or, set, sym, refl, ap, ◌∙◌, arith}
+use Rattle.std.proofs.lemmas.Nat.{div-mul-add, mod-mul-add, mul-add-lt}
 use Rattle.weights.specs.declared.weight.Weight.{Ghosts}
 use Rattle.tables.specs.Meaning.{value_at}
 
@@ -38,3 +38,7 @@ module _ {W : Type 0} (g : Ghosts W) where
 pub same_cell : (n a b c d : ℕ) → b < n → d < n → a * n + b ≡ c * n + d → (a ≡ c) × (b ≡ d)
 same_cell n a b c d hb hd e =
     (sym (div-mul-add a n b hb) ∙ ap (λ k. k / n) e ∙ div-mul-add c n d hd, sym (mod-mul-add a n b hb) ∙ ap (λ k. k % n) e ∙ mod-mul-add c n d hd)
+
+-- a row and a column are a place within a table
+pub cell_within : (row column units size : ℕ) → row < units → column < units → units * units ≤ size → row * units + column < size
+cell_within row column units size lr lc room = let h = mul-add-lt row units column units lr lc in omega arith

@@ -5,6 +5,7 @@ pub mod reads;
 
 use crate::groups::Groups;
 
+// Weights that are lent to be read, a row for each unit of the groups; what lies past the rows is not read.
 #[derive(Drop)]
 pub struct Graph<'g, W> {
     weights: &'g [W],

@@ -9,8 +9,8 @@ pub struct Groups {
     units: usize,
     // how many groups stand
     left: usize,
-    // No heap: fixed memory for as many units as there can be. Two arrays, as a merger goes over all
-    // names and clears one mark; a group's mark is no fact of the unit that lends the group its number.
+    // No heap: fixed memory for the most units there can be. Two arrays and not one of pairs, since a
+    // merger goes over the names of all units as one slice, and clears the mark of one group.
     standing: [bool; 64],
     // the group of each unit
     names: [usize; 64],

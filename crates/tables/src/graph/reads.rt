@@ -39,7 +39,8 @@ impl<'g, W: Weight> Graph<'g, W> {
         self.groups.is_third(u, v, w)
     }
 
-    // The entry of a row and a column.
+    // The entry of a row and a column. Read here too, and not only of a `Table`, as the weights of a
+    // view need not lie in one.
     pub fn entry(&self, row: usize, column: usize) -> W
         requires row { row < self.now.groups.now.units }
         requires column { column < self.now.groups.now.units }

@@ -83,6 +83,7 @@ pub fn blank<W: Weight>(entries: &mut [W])
     ensures length { length entries.new ≡ length entries.old }
     ensures nothing { (i : ℕ) → i < length entries.old → value_at W.Weight entries.new i ≡ W.Weight.zero }
 {
+    // not by `fill`, which clones its value: no law of a kind of weights speaks of a clone
     for entry in entries {
         *entry = W::nothing();
     }

@@ -1,4 +1,3 @@
-use Rattle.std.proofs.Common.{◌≡◌}
 use Rattle.tables.specs.Meaning.{SameMemory}
 use Rattle.tables.proofs.Turns.{Merging}
 use Rattle.tables.proofs.table.Table.merge_rows.Given as goal
