@@ -11,7 +11,9 @@ use Rattle.cuts.specs.Scans.{found}
 use Rattle.cuts.specs.Records.{Point, merger, ended, merge, merge_found, next_scan, scanned, Work, test, scan}
 use Rattle.cuts.proofs.Finds.{scan_merges_lem}
 use Rattle.cuts.proofs.Noted.{noted_same}
+use Rattle.tables.specs.declared.graph.Graph.{Graph}
 use Rattle.tables.specs.declared.groups.Groups.{Groups}
+use Rattle.tables.specs.Meaning.{Explains, ExplainsIn}
 use Rattle.scans.specs.Scanned.{Scanned}
 use Rattle.contractions.specs.declared.progress.Progress.{Progress}
 use Rattle.contractions.specs.Progress.{At}
@@ -20,6 +22,10 @@ use Rattle.contractions.proofs.Founds.{merger_stands}
 module _ {W : Type 0} (g : Ghosts W) (n : ℕ) (ls : List (Link g.Value)) (p : Point)
     (table : List W) (groups : Groups) (progress : Progress W) (marks : List ℕ) (entries : List Entry)
     (was : At g n ls p table groups progress marks entries) where
+  -- the weights and the groups, as a pass or a scan sees them
+  pub seen : (graph : Graph W) → graph.weights.now ≡ table → graph.groups.now ≡ groups → (graph.groups.now.units ≡ n) × ExplainsIn g ls p.done graph
+  seen graph weights same = (ap (λ (gs : Groups). gs.units) same ∙ was.explains.tracks.units, rw (same, weights) (subst (λ m. Explains g m ls p.done table groups) (sym was.explains.tracks.units) was.explains))
+
   -- one scan more
   pub at_scan : At g n ls (next_scan (kind_of g) n ls p) table groups (record { best = progress.best; mergers = progress.mergers; scans = progress.scans + 1 }) marks entries
   at_scan = record {

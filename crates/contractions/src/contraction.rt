@@ -16,11 +16,11 @@ use cuts::entry::Entry;
 use cuts::ground::Ground;
 use passes::pairs::first_pair;
 use queues::queue::PriorityQueue;
-use rows::rows::{lightest, merge_rows};
 use scans::found::Found;
 use scans::scan::scan;
+use tables::graph::Graph;
 use tables::groups::Groups;
-use tables::table::entry;
+use tables::table::Table;
 use weights::weight::Weight;
 
 // Whether work goes on: more than two groups are left, and best is above nothing.
@@ -81,11 +81,12 @@ fn merge<W: Weight>(
 {
     let low = merger.low as usize;
     let high = merger.high as usize;
-    merge_rows(table, groups, n, low, high);
+    let mut rows = Table::over(table, n);
+    rows.merge_rows(low, high, groups);
+    let degree = rows.entry(low, low);
     groups.join(low, high);
     entries[progress.mergers] = merger;
     progress.mergers += 1;
-    let degree = entry(table, n, low, low);
     note_best(groups, n, low, degree, progress, marks);
 }
 
@@ -166,14 +167,14 @@ fn round<W: Weight, Q: PriorityQueue<Weight = W>>(
     ensures unscanned { progress.new.scans ≡ progress.old.scans → queue.new ≡ queue.old }
     ensures scanned { progress.old.scans < progress.new.scans → Empty (Q.PriorityQueue.key queue.new) }
 {
-    match first_pair(table, groups, n, progress.best) {
+    match first_pair(&Graph::over(table, groups), progress.best) {
         Some((u, v, ground)) => {
             let merger = merger_of(u, v, ground, 0);
             merge(table, groups, n, merger, progress, marks, entries);
         }
         None => {
             progress.scans += 1;
-            let found = scan(queue, table, groups, n, progress.best);
+            let found = scan(queue, &Graph::over(table, groups), progress.best);
             merge_found(table, groups, n, &found, progress, marks, entries);
         }
     }
@@ -198,10 +199,12 @@ pub fn contract<W: Weight, Q: PriorityQueue<Weight = W>>(
     ensures scanned { 0 < result.scans → Empty (Q.PriorityQueue.key queue.new) }
 {
     let mut groups = Groups::single(n);
-    let unit = lightest(table, n);
+    let rows = Table::over(table, n);
+    let unit = rows.lightest();
+    let best = rows.entry(unit, unit);
     mark_group(&groups, n, unit, marks);
     let mut progress = Progress {
-        best: entry(table, n, unit, unit),
+        best,
         mergers: 0,
         scans: 0,
     };

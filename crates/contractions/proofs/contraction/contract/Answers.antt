@@ -1,33 +1,44 @@
-use Rattle.std.proofs.Common.{◌≡◌, true, [], take, sym, refl, ◌∙◌, subst, arith}
+use Rattle.std.proofs.Common.{◌≡◌, ◌*◌, true, [], take, drop, sym, refl, ap, ◌∙◌, subst, arith}
 use Rattle.cuts.specs.Kinds.{kind_of}
 use Rattle.cuts.specs.Groups.{group}
 use Rattle.cuts.specs.Outcomes.{Outcome}
-use Rattle.cuts.specs.Records.{begin, ended}
+use Rattle.cuts.specs.Records.{Lightest, begin, ended}
 use Rattle.queues.specs.Keys.{Empty}
-use Rattle.contractions.proofs.Sparing.{spared_none, spared_more}
+use Rattle.tables.specs.Meaning.{Holds}
+use Rattle.contractions.proofs.Sparing.{spared_more}
 use Rattle.contractions.proofs.Works.{at_start, at_end, ended_full, scanned_next}
 use Rattle.contractions.proofs.contraction.contract.Goals as goal
 use Rattle.contractions.proofs.contraction.contract.Goals.{else-loop-round-test, then-loop-round-test+then-not-goes_on}
 
 pub loop-round-init : goal.loop-round-init
 loop-round-init g c =
+    let W = g.W.Weight in
     let n = c.args.n in
     let u = c.lightest-unit.result in
     let units = c.single-groups.ensures.units in
     let left = c.single-groups.ensures.left in
+    let rows = c.over-rows.ensures.units in
+    let end = c.table-1.given.1.1 (sym c.over-rows.ensures.memory) in
+    let back = sym end in
+    let same = end ∙ c.over-rows.ensures.entries in
+    let size = c.table-1.given.1.0 in
     record {
       sound = c.requires.sound;
-      room = record { most = c.requires.room.most; weights = c.requires.room.weights; marks = omega arith; entries = c.requires.room.entries };
+      room = record { most = c.requires.room.most; weights = omega arith; marks = omega arith; entries = c.requires.room.entries };
       units = units;
       counted = omega arith;
       scans = omega arith;
-      at = λ ls sound holds. (
-        record { done = []; best = group [] u; scans = 0 },
-        at_start g.W.Weight n ls _ _ _ _ _ u c.lightest-unit.ensures.unit sound holds c.single-groups.ensures c.entry.ensures.value c.mark_group.ensures.marked,
-        begin u (c.lightest-unit.ensures.lightest ls holds),
-        omega arith,
-      );
-      spared = spared_none n 0 _ _ _;
+      at = λ ls sound holds.
+          let lies = subst (λ t. Holds W n ls [] t) (sym same) holds in
+          let degree = rw (rows, back) at c.entry-best.ensures.value in
+          let unit = rw rows at c.lightest-unit.ensures.unit in
+          let least = subst (λ m. Lightest (kind_of W) m ls u) rows (c.lightest-unit.ensures.lightest ls (rw (rows, back) lies)) in (
+            record { done = []; best = group [] u; scans = 0 },
+            at_start W n ls _ _ _ _ _ u unit sound lies c.single-groups.ensures degree c.mark_group.ensures.marked,
+            begin u least,
+            omega arith,
+          );
+      spared = record { weights = ap (drop (n * n)) same; marks = c.mark_group.ensures.rest; entries = refl };
       unscanned = λ h. refl;
       scanned = λ h. absurd (omega arith);
     }

@@ -19,9 +19,9 @@ invariant-loop-round g l =
       units : l.groups.units ≡ l.n;
       counted : merged + l.groups.left ≡ l.n;
       scans : looked ≤ l._round;
-      at : (ls : List (Link w.Value)) → Sound (kind_of w) l.n ls → Holds w l.n ls [] l.initial.table
+      at : (ls : List (Link w.Value)) → Sound (kind_of w) l.n ls → Holds w l.n ls [] l.fn.table
           → (p : Point) × At w l.n ls p l.table l.groups (record { best = l.progress.0; mergers = merged; scans = looked }) l.marks l.entries × Work (kind_of w) l.n ls p × (l._round ≤ merged);
-      spared : Spared l.n merged l.initial.table l.table l.initial.marks l.marks l.initial.entries l.entries;
+      spared : Spared l.n merged l.fn.table l.table l.fn.marks l.marks l.fn.entries l.entries;
       unscanned : looked ≡ 0 → l.queue ≡ l.initial.queue;
       scanned : 0 < looked → Empty (q.key l.queue);
     }

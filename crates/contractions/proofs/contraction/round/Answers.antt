@@ -1,14 +1,17 @@
-use Rattle.std.proofs.Common.{arith}
+use Rattle.std.proofs.Common.{subst, arith}
 use Rattle.cuts.specs.Kinds.{kind_of}
 use Rattle.cuts.specs.Records.{merge, merge_found, next_scan}
+use Rattle.cuts.specs.Tests.{First, None}
 use Rattle.cuts.proofs.Works.{goes_on}
-use Rattle.scans.specs.Scanned.{pairs_of}
-use Rattle.contractions.proofs.Rounds.{at_scan, first_stands, test_work, scan_work, scan_more}
+use Rattle.scans.specs.Scanned.{Scanned, pairs_of}
+use Rattle.contractions.proofs.Rounds.{seen, at_scan, first_stands, test_work, scan_work, scan_more}
 use Rattle.contractions.proofs.contraction.round.Goals as goal
 
 pub returns-in-Some-clause-at : goal.returns-in-Some-clause-at
 returns-in-Some-clause-at g c = λ ls p was work on.
-    let first = c.in-Some.ensures.passed ls p.done was.explains in
+    let w = g.W.Weight in
+    let (units, explains) = seen w c.args.n ls p _ _ _ _ _ was c.over.result c.over.ensures.weights c.over.ensures.groups in
+    let first = subst (λ m. First (kind_of w) m ls p.done (w.value c.args.progress.now.best) c.in-Some.u c.in-Some.v c.in-Some.ground) units (c.in-Some.ensures.passed ls p.done explains) in
     let e = c.merger_of-merger in
     let (less, low, high) = first_stands g.W.Weight c.args.n ls p _ _ _ _ _ was work on _ _ _ first e.result e.ensures in
     (merge (kind_of g.W.Weight) c.args.n ls p e.result, c.merge.ensures.at ls p was low high less, test_work g.W.Weight c.args.n ls p _ _ _ _ _ was work on _ _ _ first e.result e.ensures)
@@ -19,10 +22,14 @@ returns-in-None-clause-at g c = λ ls p was work on.
     let n = c.args.n in
     let laws = g.met.W.Weight.laws in
     let pairs = pairs_of c.scan-found.result in
+    let before = seen w n ls p _ _ _ _ _ was c.over.result c.over.ensures.weights c.over.ensures.groups in
+    let none = subst (λ m. None (kind_of w) m ls p.done (w.value c.args.progress.now.best)) before.0 (c.in-None.ensures.passed ls p.done before.1) in
+    let again = seen w n ls p _ _ _ _ _ was c.over-in-None.result c.over-in-None.ensures.weights c.over-in-None.ensures.groups in
+    let finds = subst (λ m. Scanned (kind_of w) m ls p.done (w.value c.args.progress.now.best) (pairs_of c.scan-found.result)) again.0 (c.scan-found.ensures.found ls p.done again.1) in
     let few = (goes_on (kind_of w) laws n ls was.explains.sound p on).0 in (
       merge_found (kind_of w) n ls pairs (next_scan (kind_of w) n ls p),
       c.merge_found.ensures.at ls (next_scan (kind_of w) n ls p) (at_scan w n ls p _ _ _ _ _ was),
-      scan_work w n ls p _ _ _ _ _ was work on laws (omega arith) (c.in-None.ensures.passed ls p.done was.explains) pairs (c.scan-found.ensures.found ls p.done was.explains),
+      scan_work w n ls p _ _ _ _ _ was work on laws (omega arith) none pairs finds,
     )
 
 pub returns-in-None-clause-more : goal.returns-in-None-clause-more
@@ -30,7 +37,11 @@ returns-in-None-clause-more g c = λ ls p was work on.
     let w = g.W.Weight in
     let n = c.args.n in
     let laws = g.met.W.Weight.laws in
+    let before = seen w n ls p _ _ _ _ _ was c.over.result c.over.ensures.weights c.over.ensures.groups in
+    let none = subst (λ m. None (kind_of w) m ls p.done (w.value c.args.progress.now.best)) before.0 (c.in-None.ensures.passed ls p.done before.1) in
+    let again = seen w n ls p _ _ _ _ _ was c.over-in-None.result c.over-in-None.ensures.weights c.over-in-None.ensures.groups in
+    let finds = subst (λ m. Scanned (kind_of w) m ls p.done (w.value c.args.progress.now.best) (pairs_of c.scan-found.result)) again.0 (c.scan-found.ensures.found ls p.done again.1) in
     let few = (goes_on (kind_of w) laws n ls was.explains.sound p on).0 in
     let now = c.merge_found.ensures.at ls (next_scan (kind_of w) n ls p) (at_scan w n ls p _ _ _ _ _ was) in
-    let more = scan_more w n ls p _ _ _ _ _ was work on laws (omega arith) (c.in-None.ensures.passed ls p.done was.explains) (pairs_of c.scan-found.result) (c.scan-found.ensures.found ls p.done was.explains) in
+    let more = scan_more w n ls p _ _ _ _ _ was work on laws (omega arith) none (pairs_of c.scan-found.result) finds in
     omega (arith, more, was.mergers, now.mergers)
