@@ -11,7 +11,7 @@ use Rattle.plans.specs.declared.plan.Link.{Link}
 use Rattle.plans.specs.Model.{Model}
 use Rattle.sheets.specs.declared.issue.Issue.{Issue}
 use Rattle.sheets.specs.declared.issue.Issue.TheVariants.{First, Second}
-use Rattle.writers.proofs.Lengths.{length_fours}
+use Rattle.sheets.proofs.Seen.{length_fours}
 use Rattle.sheets.specs.Format.{issue_number, size_of_code, code_field, four, fours, bytes_of_head, link_bytes, link_size, Valid}
 use Rattle.sheets.specs.Claims.{SheetTold}
 

@@ -10,7 +10,7 @@ use Rattle.sheets.specs.Fields.{Field, through}
 use Rattle.sheets.specs.Faults.{fault_of, Faultless, FirstIn}
 
 pub none_some : {A : Type 0} {o : Option A} {x : A} → o ≡ None → o ≡ Some x → ⊥
-none_some {A} {o} {x} p q = let z : ◌≡◌ {A = ℕ} 0 1 = cc in omega arith
+none_some p q = cc
 
 all_mid : {A : Type 0} (P : A → Type 0) (a : List A) (x : A) (b : List A) → AllByRecursion P (a ++ (x ∷ b)) → P x
 all_mid P [] x b h = h.0

@@ -2,6 +2,7 @@
 use Rattle.std.proofs.Common.{◌≡◌, ℕ, zero, suc, ◌+◌, ◌*◌, ◌^◌, ◌<◌, ◌≤◌, Bool, true, false, cond, not, eqb, ltb, leb, List, [], ◌∷◌, length, get_or, take, drop, None, sym, refl, ap, ◌∙◌, subst, ap₂, ⊎_elim, add-zero, suc-mul, add-one, arith}
 use Rattle.std.proofs.ByRecursion.{All-append, All-get_or}
 use Rattle.std.proofs.lemmas.List.{get_or-append-add, get_or-take, length-take-le, take_more, take-append-drop}
+use Rattle.std.proofs.lemmas.Nat.{mul-le}
 use Rattle.std.proofs.lemmas.Bool.{cond-true, cases_Bool, or_from, and_right, le-leb, lt-ltb, eq-eqb, ne_eqb}
 use Rattle.refusals.specs.declared.Refusal.TheVariants.{NotACode, CodeTaken, NoSuchUnit, SelfLink, NoWeight, OverLimit, BadMark, TrailingBytes, Full, OtherKind}
 use Rattle.weights.specs.declared.weight.Weight.{Ghosts}
@@ -22,9 +23,7 @@ use Rattle.sheets.specs.Format.{Valid, size_of_code, four, fours, link_bytes, li
 use Rattle.sheets.proofs.Seen.{byte_in, fours_at, four_digits, issue_seen, links_seen, length_seen, link_place_seen, code_seen, texts_seen, link_seen}
 
 times : (k n s : ℕ) → k < n → k * s + s ≤ n * s
-times k zero s lt = absurd (omega arith)
-times zero (suc n) s lt = let a = suc-mul n s in let b = suc-mul zero s in omega arith
-times (suc k) (suc n) s lt = let r = times k n s (omega arith) in let a = suc-mul n s in let b = suc-mul k s in omega arith
+times k n s lt = let a = suc-mul k s in let b = mul-le (suc k) s n s lt (omega arith) in omega arith
 
 -- no other unit bears a code that is among none of theirs
 unborne : (text : List ℕ) (cs : List (List ℕ)) (i k : ℕ) → ((j : ℕ) → j < length cs → get_or cs j [] ≡ text → ⊥) → borne_from i k text cs ≡ false

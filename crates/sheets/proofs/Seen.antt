@@ -1,5 +1,5 @@
 -- The bytes of a plan's sheet, seen as fields.
-use Rattle.std.proofs.Common.{◌≡◌, ℕ, zero, suc, ◌+◌, ◌-◌, ◌*◌, ◌/◌, ◌%◌, ◌^◌, ◌<◌, ◌≤◌, true, eqb, ◌⊎◌, List, [], ◌∷◌, ◌++◌, length, get_or, take, drop, sym, refl, ap, ◌∙◌, ap₂, ⊎_elim, suc-mul, add_comm, zero-mul, add-one, arith}
+use Rattle.std.proofs.Common.{◌≡◌, ℕ, zero, suc, ◌+◌, ◌-◌, ◌*◌, ◌/◌, ◌%◌, ◌^◌, ◌<◌, ◌≤◌, true, eqb, ◌⊎◌, List, [], ◌∷◌, ◌++◌, length, get_or, take, drop, sym, refl, ap, ◌∙◌, ap₂, append-nil, ⊎_elim, suc-mul, add_comm, zero-mul, add-one, arith}
 use native.Mathlib.Nat.{div-div-eq-div-mul}
 use Rattle.std.specs.List.{flat_map, AllByRecursion}
 use Rattle.std.proofs.ByRecursion.{All-get_or}
@@ -44,7 +44,7 @@ seventh text h n z =
     let c = ((decides_code text).0 h).later 6 (omega arith) (omega arith) in
     ⊎_elim (λ (a : (65 ≤ get_or text 6 0) × (get_or text 6 0 ≤ 90)). let b = a.0 in omega arith) (λ a. let b = a.0 in omega arith) c
 
-six_or_seven : (text : List ℕ) → is_code text ≡ true → (length text ≡ 6) ⊎ (length text ≡ 7)
+pub six_or_seven : (text : List ℕ) → is_code text ≡ true → (length text ≡ 6) ⊎ (length text ≡ 7)
 six_or_seven text h = ((decides_code text).0 h).size
 
 -- the field of a code has its size, and tells the code
@@ -117,9 +117,6 @@ module _ {W : Type 0} (g : Ghosts W) (i : Issue) (m : Model W) (v : Valid g i m)
   pub links_seen : links_in (sheet_of g i m) ≡ length m.links
   links_seen = let h = v.short in omega arith
 
-  sized : (text : List ℕ) → (is_code text ≡ true) × (length text ≤ size_of_code i) → length (code_field i text) ≡ size_of_code i
-  sized text h = length_field i text h.0 h.1
-
   all_sized : (texts : List (List ℕ)) → AllByRecursion (λ text. is_code text ≡ true) texts → AllByRecursion (λ text. length text ≤ size_of_code i) texts → AllByRecursion (λ text. length (code_field i text) ≡ size_of_code i) texts
   all_sized [] a b = tt
   all_sized (t ∷ ts) a b = (length_field i t a.0 b.0, all_sized ts a.1 b.1)
@@ -166,9 +163,5 @@ module _ {W : Type 0} (g : Ghosts W) (i : Issue) (m : Model W) (v : Valid g i m)
       ap (λ p. bytes_at S p s) (link_place_seen k)
       ∙ (ap (take s) (sym (drop-drop (n + k * s) 9 S))
       ∙ (ap (take s) (sym (drop-drop (k * s) n (cs ++ ls)))
-      ∙ (ap (λ ys. take s (drop (k * s) ys)) (drop_at cs ls n length_codes ∙ sym (append-nil-of ls))
+      ∙ (ap (λ ys. take s (drop (k * s) ys)) (drop_at cs ls n length_codes ∙ sym (append-nil ls))
       ∙ piece_at (link_bytes g) s m.links [] k d (links_sized m.links) lt)))
-    where
-      append-nil-of : (xs : List ℕ) → xs ++ [] ≡ xs
-      append-nil-of [] = refl
-      append-nil-of (x ∷ xs) = ap (λ ys. x ∷ ys) (append-nil-of xs)

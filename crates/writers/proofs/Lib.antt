@@ -1,5 +1,3 @@
-pub mod Lengths
 pub mod Puts
 pub mod Steps
 pub mod Verdict
-pub mod Within

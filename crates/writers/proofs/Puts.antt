@@ -1,13 +1,9 @@
 -- Fields put one after the other.
-use Rattle.std.proofs.Common.{◌≡◌, ℕ, ◌+◌, ◌-◌, ◌<◌, ◌≤◌, List, [], ◌∷◌, ◌++◌, length, take, drop, set, sym, refl, ap, ◌∙◌, subst, arith}
+use Rattle.std.proofs.Common.{◌≡◌, ℕ, ◌+◌, ◌-◌, ◌≤◌, List, ◌++◌, length, take, drop, refl, ap, ◌∙◌, arith}
 use borrow.Rule.Slice.PartMut.{put_mid}
-use Rattle.std.proofs.lemmas.List.{append_assoc, length-append, take_more_set, drop-set-lt, drop-drop}
+use Rattle.std.proofs.lemmas.List.{append_assoc, length-append, drop-drop}
 use Rattle.std.proofs.lemmas.Slice.{take-put_mid, drop-put_mid}
-use Rattle.writers.specs.Fields.{Put, Room}
-
--- the same bytes by another name
-pub put_same : {xs ys f q : List ℕ} {at n : ℕ} → f ≡ q → Put xs at f n ys → Put xs at q n ys
-put_same {xs} {ys} {f} {q} {at} {n} e p = subst (λ t. Put xs at t n ys) e p
+use Rattle.writers.specs.Fields.{Put}
 
 -- a part of the bytes was written over
 pub put_part : (xs ys zs : List ℕ) (at : ℕ) → zs ≡ ys → at + length ys ≤ length xs → length (put_mid at (at + length ys - at) xs zs) ≡ length xs → Put xs at ys (at + length ys) (put_mid at (at + length ys - at) xs zs)
@@ -24,14 +20,14 @@ put_part xs ys zs at same h size =
 further : (m n : ℕ) (xs ys : List ℕ) → m ≤ n → drop m xs ≡ drop m ys → drop n xs ≡ drop n ys
 further m n xs ys h e =
     let z : m + (n - m) ≡ n = omega arith in
-    ap (λ k. drop k xs) (sym z) ∙ (sym (drop-drop (n - m) m xs) ∙ (ap (drop (n - m)) e ∙ (drop-drop (n - m) m ys ∙ ap (λ k. drop k ys) z)))
+    let x = drop-drop (n - m) m xs in
+    let y = drop-drop (n - m) m ys in
+    rw (← z) (cc)
 
 -- a field and then another one
 pub put_both : {xs ys zs f q : List ℕ} {at m n : ℕ} → Put xs at f m ys → Put ys m q n zs → Put xs at (f ++ q) n zs
 put_both {xs} {ys} {zs} {f} {q} {at} {m} {n} a b =
-    let la = a.follows in
-    let lb = b.follows in
-    let ll = length-append f q in
+    let l = length-append f q in
     record {
       follows = omega arith;
       size = b.size ∙ a.size;

@@ -1,23 +1,19 @@
 -- The steps of a loop that puts one record after another.
-use Rattle.std.proofs.Common.{◌≡◌, ℕ, ◌+◌, ◌<◌, ◌≤◌, List, length, get_or, take, sym, ap, arith}
+use Rattle.std.proofs.Common.{◌≡◌, ℕ, ◌+◌, ◌<◌, List, [], length, get_or, take, ap, arith}
 use Rattle.std.specs.List.{flat_map}
-use Rattle.std.proofs.lemmas.List.{take_all}
+use Rattle.std.proofs.lemmas.List.{take_more, flat_map_more}
 use Rattle.std.proofs.lemmas.List.Folds.{length-flat_map-take}
 use Rattle.writers.specs.Fields.{Put, Room}
-use Rattle.writers.proofs.Puts.{put_both, put_same}
-use Rattle.writers.proofs.Lengths.{joined_step}
+use Rattle.writers.proofs.Puts.{put_both}
 
-module _ {X : Type 0} (f : X → List ℕ) (xs : List X) (i : ℕ) {out cur : List ℕ} {at next : ℕ} (so_far : Put out at (flat_map f (take i xs)) next cur) where
+module _ {X : Type 0} (f : X → List ℕ) (xs : List X) (i : ℕ) {x : X} {out cur : List ℕ} {at next : ℕ} (is : x ≡ get_or xs i x) (more : i < length xs) (so_far : Put out at (flat_map f (take i xs)) next cur) where
   -- room for the next record
-  pub room_next : (d : X) → i < length xs → Room out at (flat_map f xs) → Room cur next (f (get_or xs i d))
-  room_next d h room =
-      let w = length-flat_map-take f xs i d h in
-      let n = so_far.follows in
-      let l = so_far.size in
+  pub room_next : Room out at (flat_map f xs) → Room cur next (f x)
+  room_next room =
+      let part = length-flat_map-take f xs i x more in
+      let same = ap (λ y. length (f y)) is in
       omega arith
 
-  pub put_next : {after : List ℕ} {m : ℕ} (d : X) → i < length xs → Put cur next (f (get_or xs i d)) m after → Put out at (flat_map f (take (i + 1) xs)) m after
-  put_next d h p = put_same (sym (joined_step f xs i d h)) (put_both so_far p)
-
-  pub put_all : length xs ≤ i → Put out at (flat_map f xs) next cur
-  put_all h = put_same (ap (flat_map f) (take_all i xs h)) so_far
+  -- the next record put
+  pub put_next : {after : List ℕ} {m : ℕ} → Put cur next (f x) m after → Put out at (flat_map f (take (i + 1) xs)) m after
+  put_next p = rw (take_more xs i x more, ← flat_map_more f [] (take i xs) (get_or xs i x), ← is) (put_both so_far p)

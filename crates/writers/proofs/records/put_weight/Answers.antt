@@ -1,7 +1,6 @@
-use Rattle.std.proofs.Common.{sym, ap, ◌∙◌, arith}
-use Rattle.sheets.specs.Format.{four}
-use Rattle.writers.proofs.Lengths.{fours_more, length_fours}
-use Rattle.writers.proofs.Puts.{put_both, put_same}
+use Rattle.std.proofs.Common.{rules, add-one, arith}
+use Rattle.sheets.proofs.Seen.{length_fours}
+use Rattle.writers.proofs.Puts.{put_both}
 use Rattle.writers.proofs.records.put_weight.Goals as goal
 
 pub put_bytes-requires : goal.put_bytes-requires
@@ -12,10 +11,7 @@ put_bytes-requires g c =
     omega arith
 
 pub loop-i-preserved : goal.loop-i-preserved
-loop-i-preserved g c =
-    let f = g.W.Weight.nth (g.W.Weight.value c.args.weight) in
-    let part = put_same (c.to_le_bytes.ensures ∙ ap four c.part.ensures) c.put_bytes.ensures.put in
-    record {
-      lent = c.put_bytes.ensures.lent ∙ c.loop-i.invariant.lent;
-      put = put_same (sym (fours_more f c.loop-i.i)) (put_both c.loop-i.invariant.put part);
-    }
+loop-i-preserved g c = record {
+  lent = search rules;
+  put = rw add-one (put_both c.loop-i.invariant.put (rw (c.to_le_bytes.ensures, c.part.ensures) at c.put_bytes.ensures.put));
+}
