@@ -1,6 +1,7 @@
 -- What a look through the groups keeps: which entry is to be taken among those so far.
 use Rattle.std.proofs.Common.{◌≡◌, ℕ, zero, suc, ◌+◌, ◌<◌, ◌≤◌, Bool, true, false, cond, ltb, replicate, Some, None, Option, sym, refl, ap, ◌∙◌, ⊎_elim, arith}
-use Rattle.std.proofs.lemmas.Bool.{cases_lt, cases_eq, cond-true, cond-false, lt-ltb, le-ltb, both_ways}
+use Rattle.std.proofs.lemmas.Bool.{cases_lt, cases_eq, cond-true, cond-false, lt-ltb, le-ltb}
+use Rattle.queues.proofs.Looking.{clash, true_or}
 use Rattle.queues.proofs.Orders.{Ordered, le_self, le_flip, le_above}
 use Rattle.drains.specs.declared.tied.Tie.{Tie}
 use Rattle.drains.specs.declared.tied.Tie.TheVariants.{Lowest, Highest}
@@ -14,12 +15,6 @@ keyed_none (suc n) (suc g) = keyed_none n g
 -- the entries of the groups below i
 abbrev pub up_to : {W : Type 0} → (ℕ → Option W) → ℕ → ℕ → Option W
 up_to key i g = cond (ltb g i) (key g) None
-
-clash : {W P : Type 0} {o : Option W} {v : W} → o ≡ Some v → o ≡ None → P
-clash is e = let z : ◌≡◌ {A = ℕ} 0 1 = cc in absurd (omega arith)
-
-true_or : {P : Type 0} {f : Bool} → f ≡ true → f ≡ false → P
-true_or {P} {f} a b = absurd (both_ways f b a)
 
 picked_same : {W : Type 0} (le : W → W → Bool) (tie : Tie) (before after : ℕ → Option W) → ((g : ℕ) → after g ≡ before g) → (o : Option (ℕ × W)) → Picked le tie before o → Picked le tie after o
 picked_same le tie before after same None p = λ g. same g ∙ p g
