@@ -14,6 +14,7 @@ use writers::write::write;
 pub struct Case<'a> {
     heap: Global,
     pub draft: &'a Draft,
+    // a number, since one that is no issue is to be refused
     issue: u16,
     pub sheet: Vec<u8>,
 }

@@ -33,13 +33,15 @@ pub fn parts_of<W: Weight>(weight: W) -> Parts
 }
 
 // The library's link as plain values.
-pub fn wire_of<W: Weight>(link: Link<W>) -> Wire
-    ensures { result ≡ wire_of W.Weight link }
-{
-    Wire {
-        ends: (link.first as usize, link.second as usize),
-        serves: link.in_service,
-        parts: parts_of(link.weight),
+impl<W: Weight> From<Link<W>> for Wire {
+    ghost from_gives = { λ link wire. wire ≡ wire_of W.Weight link };
+
+    fn from(link: Link<W>) -> Wire {
+        Wire {
+            ends: (link.first as usize, link.second as usize),
+            serves: link.in_service,
+            parts: parts_of(link.weight),
+        }
     }
 }
 
@@ -62,5 +64,5 @@ pub fn are_wires<W: Weight>(links: &[Link<W>], wires: &[Wire]) -> bool
         && links
             .iter()
             .zip(wires)
-            .all(|(link, wire)| wire_of(*link) == *wire)
+            .all(|(link, wire)| Wire::from(*link) == *wire)
 }
