@@ -10,7 +10,7 @@ use Rattle.codes.specs.Code.{is_code}
 use Rattle.plans.specs.declared.plan.Plan.{Plan}
 use Rattle.plans.specs.declared.plan.Unit.{Unit as Record}
 use Rattle.plans.specs.Calls.{check}
-use Rattle.plans.specs.Model.{Model, model_of, code_of, borne_by_other}
+use Rattle.plans.specs.Model.{Model, model_of, code_of}
 use Rattle.plans.specs.Sound.{Joins}
 use Rattle.sheets.specs.declared.issue.Issue.{Issue}
 use Rattle.sheets.specs.declared.issue.Issue.TheVariants.{First, Second}
@@ -19,7 +19,7 @@ use Rattle.sheets.specs.Faults.{fault_of, fault_with, wrong, Faultless}
 use Rattle.sheets.specs.Format.{Valid, code_field, size_of_code, bytes_of_head, link_size, sheet_of}
 use Rattle.sheets.proofs.Firsts.{none_some}
 use Rattle.readers.specs.Loads.{Apart, Loaded}
-use Rattle.readers.proofs.Filling.{clear_at}
+use Rattle.readers.proofs.Filling.{clear_at, left_clear}
 use Rattle.readers.proofs.Heads.{whole}
 use Rattle.readers.proofs.Linking.{first_link}
 use Rattle.readers.proofs.Pieces.{bytes_join}
@@ -92,8 +92,7 @@ module _ {W : Type 0} (g : Ghosts W) (bs : List ℕ) where
       let v = check_passed _ _ _ (right (code k) (clear_at g bs (λ j. code j ∷ []) n k low clear).0) in
       let free = not-true _ (check_passed _ _ _ v.1).0 in
       let t = text_at bs n k low in
-      ap (λ ts. borne_by_other k (get_or ts k []) (take k ts)) e
-      ∙ (ap (λ x. borne_by_other k x (take k (texts_in bs n))) t.0 ∙ (ap (borne_by_other k (text_in bs k)) t.1 ∙ free))
+      rw (e, t.0, t.1) free
 
   pub codes_bytes : (n : ℕ) → Faultless g bs (code_fields n) → bytes_at bs 9 (n * size_of_code (issue_in bs)) ≡ flat_map (code_field (issue_in bs)) (texts_in bs n)
   codes_bytes zero clear = ap (bytes_at bs 9) (zero-mul (size_of_code (issue_in bs)))
@@ -103,16 +102,12 @@ module _ {W : Type 0} (g : Ghosts W) (bs : List ℕ) where
       let piece = bytes_at bs (code_place bs n) s in
       let full = whole g bs (code n) (clear_at g bs (λ j. code j ∷ []) (suc n) n (omega arith) clear).0 in
       let size : length piece ≡ s = length-take-le s (drop (code_place bs n) bs) (let h = length-drop (code_place bs n) bs in omega arith) in
-      let before : Faultless g bs (code_fields n) = left (code_fields n) (code n ∷ []) clear in
+      let before = left_clear g bs (code_fields n) (code n ∷ []) clear in
       ap (bytes_at bs 9) (suc-mul n s)
       ∙ (bytes_join bs 9 (n * s) s
       ∙ (ap (λ x. x ++ piece) (codes_bytes n before)
       ∙ (ap (λ x. flat_map (code_field i) (texts_in bs n) ++ x) (sym (field_back i piece size))
       ∙ flat_map_more (code_field i) [] (texts_in bs n) (text_in bs n))))
-    where
-      left : (a b : List Field) → Faultless g bs (a ++ b) → Faultless g bs a
-      left [] b h = tt
-      left (x ∷ a) b h = (h.0, left a b h.1)
 
   -- head, codes and links are all the bytes
   pub assembled : (before m : Model W) → length bs ≡ link_place g bs (links_in bs) → bytes_at bs 0 9 ≡ bytes_of_head g (issue_in bs) (units_in bs) (links_in bs)

@@ -21,36 +21,36 @@ module _ {W : Type 0} (g : Ghosts W) (bs : List ℕ) where
   abbrev pub One : {X : Type 0} → Field → ℕ → Result X Fault → Cursor → (X → Type 0) → Type 0
   One f next r a P = MatchResult r (λ x. (fault_of g bs f ≡ None) × P x) (λ e. fault_of g bs f ≡ Some e) × IfOk r (λ _. Stands bs next a) × (a.part ≡ part_of f)
 
-  module _ (b a : Cursor) where
-    pub magic_read : (r : Result (Unit {0}) Fault) → Stands bs 0 b → b.part ≡ Head
+  module _ {b a : Cursor} where
+    pub magic_read : {r : Result (Unit {0}) Fault} → Stands bs 0 b → b.part ≡ Head
         → Took b b.part 3 (magic_verdict (bytes_at b.bytes.now b.at 3)) r a (λ _. bytes_at b.bytes.now b.at 3 ≡ format.magic)
         → One magic 3 r a (λ _. bytes_at bs 0 3 ≡ format.magic)
     unfolding fault_of
-    magic_read r s e t = at_place (λ x q. magic_verdict (bytes_at x q 3)) (λ x q _. bytes_at x q 3 ≡ format.magic) Head 3 r b a bs 0 b.part s e t
+    magic_read {r} s e t = at_place (λ x q. magic_verdict (bytes_at x q 3)) (λ x q _. bytes_at x q 3 ≡ format.magic) Head 3 r b a bs 0 b.part s e t
 
-    pub issue_read : (r : Result Issue Fault) → Stands bs 3 b → b.part ≡ Head
+    pub issue_read : {r : Result Issue Fault} → Stands bs 3 b → b.part ≡ Head
         → Took b b.part 2 (issue_verdict (two_at b.bytes.now b.at)) r a (λ i. (i ≡ issue_from (two_at b.bytes.now b.at)) × (bytes_at b.bytes.now b.at 2 ≡ two (issue_number i)))
         → One issue 5 r a (λ i. (i ≡ issue_in bs) × (bytes_at bs 3 2 ≡ two (issue_number i)))
     unfolding fault_of
-    issue_read r s e t = at_place (λ x q. issue_verdict (two_at x q)) (λ x q i. (i ≡ issue_from (two_at x q)) × (bytes_at x q 2 ≡ two (issue_number i))) Head 2 r b a bs 3 b.part s e t
+    issue_read {r} s e t = at_place (λ x q. issue_verdict (two_at x q)) (λ x q i. (i ≡ issue_from (two_at x q)) × (bytes_at x q 2 ≡ two (issue_number i))) Head 2 r b a bs 3 b.part s e t
 
-    pub kind_read : (r : Result (Unit {0}) Fault) → Stands bs 5 b → b.part ≡ Head
+    pub kind_read : {r : Result (Unit {0}) Fault} → Stands bs 5 b → b.part ≡ Head
         → Took b b.part 1 (check (eqb (byte_at b.bytes.now b.at) g.tag) OtherKind accepted) r a (λ _. byte_at b.bytes.now b.at ≡ g.tag)
         → One kind 6 r a (λ _. byte_at bs 5 ≡ g.tag)
     unfolding fault_of
-    kind_read r s e t = at_place (λ x q. check (eqb (byte_at x q) g.tag) OtherKind accepted) (λ x q _. byte_at x q ≡ g.tag) Head 1 r b a bs 5 b.part s e t
+    kind_read {r} s e t = at_place (λ x q. check (eqb (byte_at x q) g.tag) OtherKind accepted) (λ x q _. byte_at x q ≡ g.tag) Head 1 r b a bs 5 b.part s e t
 
-    pub units_read : (r : Result ℕ Fault) → Stands bs 6 b → b.part ≡ Head
+    pub units_read : {r : Result ℕ Fault} → Stands bs 6 b → b.part ≡ Head
         → Took b b.part 1 (check (leb (byte_at b.bytes.now b.at) most_units) Full accepted) r a (λ n. (n ≡ byte_at b.bytes.now b.at) × (n ≤ most_units))
         → One units 7 r a (λ n. (n ≡ units_in bs) × (n ≤ most_units))
     unfolding fault_of
-    units_read r s e t = at_place (λ x q. check (leb (byte_at x q) most_units) Full accepted) (λ x q n. (n ≡ byte_at x q) × (n ≤ most_units)) Head 1 r b a bs 6 b.part s e t
+    units_read {r} s e t = at_place (λ x q. check (leb (byte_at x q) most_units) Full accepted) (λ x q n. (n ≡ byte_at x q) × (n ≤ most_units)) Head 1 r b a bs 6 b.part s e t
 
-    pub links_read : (r : Result ℕ Fault) → Stands bs 7 b → b.part ≡ Head
+    pub links_read : {r : Result ℕ Fault} → Stands bs 7 b → b.part ≡ Head
         → Took b b.part 2 (check (leb (two_at b.bytes.now b.at) most_links) Full accepted) r a (λ n. (n ≡ two_at b.bytes.now b.at) × (bytes_at b.bytes.now b.at 2 ≡ two n) × (n ≤ most_links))
         → One links 9 r a (λ n. (n ≡ links_in bs) × (bytes_at bs 7 2 ≡ two n) × (n ≤ most_links))
     unfolding fault_of
-    links_read r s e t = at_place (λ x q. check (leb (two_at x q) most_links) Full accepted) (λ x q n. (n ≡ two_at x q) × (bytes_at x q 2 ≡ two n) × (n ≤ most_links)) Head 2 r b a bs 7 b.part s e t
+    links_read {r} s e t = at_place (λ x q. check (leb (two_at x q) most_links) Full accepted) (λ x q n. (n ≡ two_at x q) × (bytes_at x q 2 ≡ two n) × (n ≤ most_links)) Head 2 r b a bs 7 b.part s e t
 
   -- a field with no fault is whole
   pub whole : (f : Field) → fault_of g bs f ≡ None → place_of g bs f + size_of g bs f ≤ length bs

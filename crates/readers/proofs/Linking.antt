@@ -22,20 +22,20 @@ module _ {W : Type 0} (g : Ghosts W) (bs : List ℕ) where
   pub first_link : code_place bs (units_in bs) ≡ link_place g bs 0
   first_link = let p = zero-mul (link_size g) in omega arith
 
-  module _ (k : ℕ) (b a : Cursor) where
-    pub first_read : (n : ℕ) (r : Result ℕ Fault) → Stands bs (link_place g bs k) b → b.part ≡ part.Link k → n ≡ units_in bs
+  module _ (k : ℕ) {b a : Cursor} where
+    pub first_read : {n : ℕ} {r : Result ℕ Fault} → Stands bs (link_place g bs k) b → b.part ≡ part.Link k → n ≡ units_in bs
         → Took b b.part 1 (end_verdict n (byte_at b.bytes.now b.at)) r a (λ e. (e ≡ byte_at b.bytes.now b.at) × (e < n))
         → One g bs (first k) (link_place g bs k + 1) r a (λ e. (e ≡ byte_at bs (link_place g bs k)) × (e < units_in bs))
     unfolding fault_of
-    first_read n r s w e t =
+    first_read {n} {r} s w e t =
         let u = subst (λ m. Took b b.part 1 (end_verdict m (byte_at b.bytes.now b.at)) r a (λ e. (e ≡ byte_at b.bytes.now b.at) × (e < m))) e t in
         at_place (λ x q. end_verdict (units_in bs) (byte_at x q)) (λ x q e. (e ≡ byte_at x q) × (e < units_in bs)) (part.Link k) 1 r b a bs (link_place g bs k) b.part s w u
 
-    pub second_read : (n one : ℕ) (r : Result ℕ Fault) → Stands bs (link_place g bs k + 1) b → b.part ≡ part.Link k → n ≡ units_in bs → one ≡ byte_at bs (link_place g bs k)
+    pub second_read : {n one : ℕ} {r : Result ℕ Fault} → Stands bs (link_place g bs k + 1) b → b.part ≡ part.Link k → n ≡ units_in bs → one ≡ byte_at bs (link_place g bs k)
         → Took b b.part 1 (other_verdict n one (byte_at b.bytes.now b.at)) r a (λ e. (e ≡ byte_at b.bytes.now b.at) × (e < n) × (one ≡ e → ⊥))
         → One g bs (second k) (link_place g bs k + 2) r a (λ e. (e ≡ byte_at bs (link_place g bs k + 1)) × (e < units_in bs) × (one ≡ e → ⊥))
     unfolding fault_of
-    second_read n one r s w e o t =
+    second_read {n} {one} {r} s w e o t =
         let F : ℕ → ℕ → Type 0 = λ m x. Took b b.part 1 (other_verdict m x (byte_at b.bytes.now b.at)) r a (λ e. (e ≡ byte_at b.bytes.now b.at) × (e < m) × (one ≡ e → ⊥)) in
         let u = subst (λ x. F (units_in bs) x) o (subst (λ m. F m one) e t) in
         let Q : ℕ → Type 0 = λ e. (e ≡ byte_at bs (link_place g bs k + 1)) × (e < units_in bs) × (one ≡ e → ⊥) in
@@ -43,11 +43,11 @@ module _ {W : Type 0} (g : Ghosts W) (bs : List ℕ) where
         subst (λ n. One g bs (second k) n r a Q) next
         (at_place (λ x q. other_verdict (units_in bs) (byte_at bs (link_place g bs k)) (byte_at x q)) (λ x q e. (e ≡ byte_at x q) × (e < units_in bs) × (one ≡ e → ⊥)) (part.Link k) 1 r b a bs (link_place g bs k + 1) b.part s w u)
 
-    pub mark_read : (r : Result Bool Fault) → Stands bs (link_place g bs k + 2) b → b.part ≡ part.Link k
+    pub mark_read : {r : Result Bool Fault} → Stands bs (link_place g bs k + 2) b → b.part ≡ part.Link k
         → Took b b.part 1 (check (ltb (byte_at b.bytes.now b.at) 2) BadMark accepted) r a (λ m. cond m 1 0 ≡ byte_at b.bytes.now b.at)
         → One g bs (mark k) (number_place g bs k 0) r a (λ m. cond m 1 0 ≡ byte_at bs (link_place g bs k + 2))
     unfolding fault_of
-    mark_read r s w t =
+    mark_read {r} s w t =
         let Q : Bool → Type 0 = λ m. cond m 1 0 ≡ byte_at bs (link_place g bs k + 2) in
         let next : link_place g bs k + 2 + 1 ≡ number_place g bs k 0 = omega arith in
         subst (λ n. One g bs (mark k) n r a Q) next
@@ -79,18 +79,14 @@ module _ {W : Type 0} (g : Ghosts W) (bs : List ℕ) where
       }
 
   -- what is promised of a weight and of a link at the cursor's place, at the place itself
-  pub weight_here : (k total : ℕ) (b a : Cursor) (r : Result W Fault) → Stands bs (number_place g bs k 0) b → b.part ≡ part.Link k → total ≡ total_in g bs k
+  pub weight_here : (k : ℕ) {total : ℕ} {b a : Cursor} {r : Result W Fault} → Stands bs (number_place g bs k 0) b → b.part ≡ part.Link k → total ≡ total_in g bs k
       → ((j : ℕ) → b.part ≡ part.Link j → b.at ≡ number_place g b.bytes.now j 0 → total ≡ total_in g b.bytes.now j
       → Reads g b.bytes.now (number_fields j g.arity ++ (weight j ∷ [])) r a (number_place g b.bytes.now j g.arity) (Weighed g b.bytes.now j))
       → Reads g bs (number_fields k g.arity ++ (weight k ∷ [])) r a (number_place g bs k g.arity) (Weighed g bs k)
-  weight_here k total b a r s w sum h =
-      let F : List ℕ → Type 0 = λ x. b.part ≡ part.Link k → b.at ≡ number_place g x k 0 → total ≡ total_in g x k → Reads g x (number_fields k g.arity ++ (weight k ∷ [])) r a (number_place g x k g.arity) (Weighed g x k) in
-      subst F s.bytes (h k) w s.place sum
+  weight_here k s w sum h = let here = rw s.bytes at (h k) in here w s.place sum
 
-  pub link_here : (k units total : ℕ) (b a : Cursor) (r : Result (Link W) Fault) → Stands bs (link_place g bs k) b → units ≡ units_in bs → total ≡ total_in g bs k
+  pub link_here : (k : ℕ) {units total : ℕ} {b a : Cursor} {r : Result (Link W) Fault} → Stands bs (link_place g bs k) b → units ≡ units_in bs → total ≡ total_in g bs k
       → (b.at ≡ link_place g b.bytes.now k → units ≡ units_in b.bytes.now → total ≡ total_in g b.bytes.now k
       → Reads g b.bytes.now (link_fields g b.bytes.now k) r a (link_place g b.bytes.now (k + 1)) (Linked g b.bytes.now k))
       → Reads g bs (link_fields g bs k) r a (link_place g bs (k + 1)) (Linked g bs k)
-  link_here k units total b a r s count sum h =
-      let F : List ℕ → Type 0 = λ x. b.at ≡ link_place g x k → units ≡ units_in x → total ≡ total_in g x k → Reads g x (link_fields g x k) r a (link_place g x (k + 1)) (Linked g x k) in
-      subst F s.bytes h s.place count sum
+  link_here k s count sum h = let here = rw s.bytes at h in here s.place count sum

@@ -1,5 +1,6 @@
 -- Fields that were read where a cursor stands, and bytes put together from neighbouring pieces.
-use Rattle.std.proofs.Common.{◌≡◌, ℕ, zero, suc, ◌+◌, ◌<◌, List, [], ◌∷◌, ◌++◌, length, take, drop, IfOk, Option, Result, ap, ◌∙◌, subst, suc-add, zero-add}
+use Rattle.std.proofs.Common.{◌≡◌, ℕ, ◌+◌, ◌<◌, List, [], ◌∷◌, ◌++◌, length, take, drop, IfOk, Option, Result, ap, ◌∙◌, subst}
+use Rattle.std.proofs.Math.Seq.{take-add}
 use Rattle.std.proofs.lemmas.List.{drop-drop, drop_more}
 use Rattle.refusals.specs.declared.Refusal.{Refusal}
 use Rattle.sheets.specs.declared.fault.Fault.{Fault}
@@ -17,15 +18,9 @@ at_place V P part n r b a bs p was s e t =
     let F : List ℕ → ℕ → Part → Type 0 = λ x q w. Taken x q n w (V x q) r (P x q) × IfOk r (λ _. Stands x (q + n) a) × (a.part ≡ w) in
     subst (λ w. F bs p w) e (subst (λ q. F bs q was) s.place (subst (λ x. F x b.at was) s.bytes (t.taken, t.moved, t.within)))
 
-take_sum : {X : Type 0} (m n : ℕ) (xs : List X) → take (m + n) xs ≡ take m xs ++ take n (drop m xs)
-take_sum zero n xs = ap (λ k. take k xs) (zero-add n)
-take_sum (suc m) zero [] = ap (λ k. take {A = _} k []) (suc-add m 0)
-take_sum (suc m) (suc n) [] = ap (λ k. take {A = _} k []) (suc-add m (suc n))
-take_sum (suc m) n (x ∷ xs) = ap (λ k. take k (x ∷ xs)) (suc-add m n) ∙ ap (λ ys. x ∷ ys) (take_sum m n xs)
-
 -- the bytes of two neighbouring pieces
 pub bytes_join : (bs : List ℕ) (p m n : ℕ) → bytes_at bs p (m + n) ≡ bytes_at bs p m ++ bytes_at bs (p + m) n
-bytes_join bs p m n = take_sum m n (drop p bs) ∙ ap (λ ys. take m (drop p bs) ++ take n ys) (drop-drop m p bs)
+bytes_join bs p m n = take-add m n (drop p bs) ∙ ap (λ ys. take m (drop p bs) ++ take n ys) (drop-drop m p bs)
 
 pub byte_alone : (bs : List ℕ) (p : ℕ) → p < length bs → bytes_at bs p 1 ≡ byte_at bs p ∷ []
 byte_alone bs p h = ap (take 1) (drop_more bs p 0 h)

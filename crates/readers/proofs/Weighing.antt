@@ -1,5 +1,6 @@
 -- Reading one number of a weight after the other, and the weight.
 use Rattle.std.proofs.Common.{◌≡◌, ℕ, zero, suc, ◌+◌, ◌*◌, ◌<◌, ◌≤◌, ◌≢◌, List, [], ◌∷◌, ◌++◌, length, get_or, set, Some, None, Ok, Err, Option, Result, sym, refl, ap, ◌∙◌, subst, add-one, arith, below_more, MatchResult}
+use Rattle.std.specs.Result.{IsErrAnd}
 use Rattle.std.proofs.ByRecursion.{All-append}
 use Rattle.std.proofs.lemmas.List.{get_or-set_same, get_or-set_other}
 use Rattle.std.proofs.lemmas.Bool.{cond-true, le-leb}
@@ -42,9 +43,6 @@ module _ {W : Type 0} (g : Ghosts W) (bs : List ℕ) (k : ℕ) where
       let v = at_place (λ x q. accepted) (λ x q n. (n ≡ four_at x q) × (bytes_at x q 4 ≡ four n)) (part.Link k) 4 r b a bs (number_place g bs k i) b.part s w t in
       let next : number_place g bs k i + 4 ≡ number_place g bs k (i + 1) = omega arith in
       subst (λ n. One g bs (number k i) n r a Q) next v
-
-  pub numbering_none : (c : Cursor) (parts : List ℕ) → c.bytes.now ≡ bs → c.part ≡ part.Link k → c.at ≡ number_place g bs k 0 → Numbering g bs k 0 c parts
-  numbering_none c parts b w p = record { stands = record { bytes = b; place = p }; within = w; clear = tt; numbers = record { values = λ i h. absurd (omega arith); bytes = refl } }
 
   pub numbering_more : (i : ℕ) (c a : Cursor) (parts : List ℕ) (x : ℕ) → i < length parts → Numbering g bs k i c parts
       → fault_of g bs (number k i) ≡ None → x ≡ four_at bs (number_place g bs k i) → bytes_at bs (number_place g bs k i) 4 ≡ four x → Stands bs (number_place g bs k (i + 1)) a → a.part ≡ part.Link k
@@ -117,4 +115,4 @@ module _ {W : Type 0} (g : Ghosts W) (bs : List ℕ) (k : ℕ) where
       weight_told place q (Err d) r p e h is =
           let told : Fault = record { refusal = d; place = number_place g bs k 0; part = part.Link k } in
           let same : ◌≡◌ {A = Fault} (record { refusal = d; place = place; part = q }) told = cc in
-          broke g bs (number_fields k g.arity ++ (weight k ∷ [])) a (number_place g bs k g.arity) (Weighed g bs k) r (record { refusal = d; place = place; part = q }) told is same (weight_refused d h)
+          broke (subst (λ x. IsErrAnd x (λ y. y ≡ told)) (sym is) same) (weight_refused d h)

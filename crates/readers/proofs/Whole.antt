@@ -1,5 +1,6 @@
 -- The whole sheet: head, codes, links and end.
-use Rattle.std.proofs.Common.{◌≡◌, ℕ, ◌^◌, ◌<◌, ◌≤◌, List, [], ◌∷◌, ◌++◌, None, Ok, Err, Result, sym, refl, ap, ◌∙◌, subst}
+use Rattle.std.proofs.Common.{◌≡◌, ℕ, ◌^◌, ◌<◌, ◌≤◌, List, [], ◌∷◌, ◌++◌, None, Ok, Err, Result, sym, refl, ◌∙◌, subst}
+use Rattle.std.specs.Result.{IsErrAnd}
 use Rattle.std.proofs.ByRecursion.{All-append}
 use Rattle.weights.specs.declared.weight.Weight.{Ghosts}
 use Rattle.weights.specs.Laws.{Exact, limit}
@@ -42,14 +43,15 @@ module _ {W : Type 0} (g : Ghosts W) (bs : List ℕ) where
 
 -- the two outcomes of reading
 module _ {W : Type 0} (g : Ghosts W) (bs : List ℕ) (exact : Exact g.arity g.of g.nth) (bounded : (x : W) → g.size (g.value x) ≤ limit) (narrow : (x : W) (j : ℕ) → g.nth (g.value x) j < 2 ^ 32) (told : (x y : W) → g.value x ≡ g.value y → x ≡ y) where
-  pub refuses : (p : Plan W g) (r : Result (Unit {0}) Fault) (d e : Fault) → r ≡ Err d → d ≡ e → FirstFault g bs e → Outcome g bs p r p
-  refuses p r d e is same h =
-      let up : Outcome g bs p (Err e) p = record {
-        fault = (h, refl);
+  pub refuses : {p : Plan W g} {r : Result (Unit {0}) Fault} {e : Fault} → IsErrAnd r (λ d. d ≡ e) → FirstFault g bs e → Outcome g bs p r p
+  refuses {r = Ok x} is h = absurd is
+  refuses {r = Err d} is h =
+      let first = subst (FirstFault g bs) (sym is) h in
+      record {
+        fault = (first, refl);
         sheet = tt;
-        back = λ issue m v s. absurd (no_fault_lem g bs (fields g bs) e (subst (Right g) (sym s) (sheet_right g exact bounded narrow issue m v)) h);
-      } in
-      subst (λ x. Outcome g bs p x p) (sym (is ∙ ap Err same)) up
+        back = λ issue m v s. absurd (no_fault_lem g bs (fields g bs) d (subst (Right g) (sym s) (sheet_right g exact bounded narrow issue m v)) first);
+      }
 
   pub accepts : (p q : Plan W g) → Right g bs → Valid g (issue_in bs) (model_of q) → bs ≡ sheet_of g (issue_in bs) (model_of q) → Outcome g bs p (Ok tt) q
   accepts p q right valid is = record {

@@ -15,8 +15,8 @@ use sheets::head::MAGIC;
 use sheets::issue::Issue;
 use weights::weight::Weight;
 
-// What the head tells: the issue, and how many units and links follow. It stands beside the cursor that read it, which
-// goes on without it.
+// What the head tells: the issue, and how many units and links follow. It stands beside the cursor, which
+// has to read it first.
 #[derive(Clone, Copy)]
 pub struct Head {
     pub issue: Issue,
@@ -55,7 +55,7 @@ fn read_kind<W: Weight>(cursor: &mut Cursor) -> Result<(), Fault>
     Ok(())
 }
 
-// Reads the number of units: 6 above 64.
+// Reads the number of units: 6 above 64. Not one function with `read_links`: only the check of the limit is the same.
 fn read_units(cursor: &mut Cursor) -> Result<usize, Fault>
     ensures { Took cursor.old cursor.old.part 1 (check (nat_le (byte_at cursor.old.bytes.now cursor.old.at) most_units) Refusal.Full accepted) result cursor.new (λ n. (n ≡ byte_at cursor.old.bytes.now cursor.old.at) × (n ≤ most_units)) }
 {

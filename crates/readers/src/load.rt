@@ -51,6 +51,7 @@ pub fn load_links<W: Weight>(cursor: &mut Cursor, head: Head, plan: &mut Plan<W>
     requires none { (model_of plan.old).links ≡ [] }
     ensures { Loaded W.Weight cursor.old.bytes.now (model_of plan.old) (model_of plan.new) }
 {
+    // The same loop as in `check_links`, which adds nothing yet: a later link may have a fault.
     let mut total = 0;
     for k in 0..head.links {
         let link = read_link::<W>(cursor, head.units, k, total).unwrap();

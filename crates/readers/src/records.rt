@@ -51,7 +51,8 @@ fn read_mark(cursor: &mut Cursor) -> Result<bool, Fault>
     }
 }
 
-// Reads link `k` between the sheet's units: 9, 10, 14, 11, 12. The amounts of the links before it come to `total`.
+// Reads link `k` between the sheet's units: 9, 10, 14, 11, 12. The amounts of the links before it come to `total`. Each
+// in a parameter of its own: the units are the head's, and `k` and `total` go up with each link.
 pub fn read_link<W: Weight>(
     cursor: &mut Cursor,
     units: usize,

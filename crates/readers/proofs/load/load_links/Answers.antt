@@ -1,18 +1,10 @@
-use Rattle.std.proofs.Common.{◌≡◌, ◌<◌, Ok, refl, ◌∙◌, subst, arith}
+use Rattle.std.proofs.Common.{◌<◌, arith}
 use Rattle.plans.specs.Model.{model_of}
-use Rattle.sheets.specs.Fields.{link_fields, link_place, links_in}
-use Rattle.readers.specs.Steps.{Stands}
+use Rattle.sheets.specs.Fields.{link_fields, links_in}
 use Rattle.readers.proofs.Exits.{never_refused}
-use Rattle.readers.proofs.Filling.{Filling, filling_none, filling_more, can_join, has_room, clear_at, filled}
-use Rattle.readers.proofs.Linking.{first_link, link_here}
+use Rattle.readers.proofs.Filling.{filling_more, can_join, has_room, clear_at}
+use Rattle.readers.proofs.Linking.{link_here}
 use Rattle.readers.proofs.load.load_links.Goals as goal
-
-pub loop-k-init : goal.loop-k-init
-loop-k-init g c =
-    let w = g.W.Weight in
-    let bs = c.args.cursor.now.bytes.now in
-    let s : Stands bs (link_place w bs 0) c.args.cursor.now = record { bytes = refl; place = c.requires.place ∙ first_link w bs } in
-    filling_none w bs c.args.cursor.now c.args.plan.now s c.requires.none
 
 pub unwrap-link-requires : goal.unwrap-link-requires
 unwrap-link-requires g c =
@@ -21,7 +13,7 @@ unwrap-link-requires g c =
     let k = c.loop-k.k in
     let was = c.loop-k.invariant in
     let lt : k < links_in bs = omega (arith, c.requires.links) in
-    let v = link_here w bs k c.args.head.units c.loop-k.total c.loop-k.cursor c.read_link.new.cursor c.read_link.result was.stands c.requires.units was.sum c.read_link.ensures.reads in
+    let v = link_here w bs k was.stands c.requires.units was.sum c.read_link.ensures.reads in
     never_refused w bs (link_fields w bs k) (clear_at w bs (link_fields w bs) (links_in bs) k lt c.requires.clear) v
 
 pub load_link-requires : goal.load_link-requires
@@ -32,7 +24,7 @@ load_link-requires g c =
     let l = c.unwrap-link.result in
     let a = c.read_link.new.cursor in
     let was = c.loop-k.invariant in
-    let v = link_here w bs k c.args.head.units c.loop-k.total c.loop-k.cursor a (Ok l) was.stands c.requires.units was.sum (rw c.unwrap-link.ensures at c.read_link.ensures.reads) in
+    let v = link_here w bs k was.stands c.requires.units was.sum (rw c.unwrap-link.ensures at c.read_link.ensures.reads) in
     record {
       joins = can_join w bs k c.loop-k.cursor a c.loop-k.total (model_of c.args.plan.now) c.loop-k.plan l c.loop-k.invariant v c.requires.codes;
       room = omega (arith, c.loop-k.invariant.count, c.requires.short);
@@ -47,13 +39,5 @@ loop-k-preserved g c =
     let l = c.unwrap-link.result in
     let a = c.read_link.new.cursor in
     let was = c.loop-k.invariant in
-    let v = link_here w bs k c.args.head.units c.loop-k.total c.loop-k.cursor a (Ok l) was.stands c.requires.units was.sum (rw c.unwrap-link.ensures at c.read_link.ensures.reads) in
+    let v = link_here w bs k was.stands c.requires.units was.sum (rw c.unwrap-link.ensures at c.read_link.ensures.reads) in
     filling_more w bs k c.loop-k.cursor a c.loop-k.total (model_of c.args.plan.now) c.loop-k.plan l c.loop-k.invariant v c.load_link.new.plan c.amount-total.result c.load_link.ensures c.amount-total.ensures
-
-pub returns : goal.returns
-returns g c =
-    let w = g.W.Weight in
-    let bs = c.args.cursor.now.bytes.now in
-    let e : c.loop-k.k ≡ links_in bs = omega (arith, c.requires.links) in
-    let v = subst (λ n. Filling w bs n c.loop-k.cursor c.loop-k.total (model_of c.args.plan.now) c.loop-k.plan) e c.loop-k.invariant in
-    filled w bs c.loop-k.cursor c.loop-k.total (model_of c.args.plan.now) c.loop-k.plan v

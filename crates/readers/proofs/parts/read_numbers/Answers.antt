@@ -1,13 +1,9 @@
-use Rattle.std.proofs.Common.{◌≡◌, ◌<◌, [], ◌∷◌, length, Ok, Err, refl, ◌∙◌, subst, arith}
-use Rattle.std.proofs.lemmas.Result.{err_from_is_err_and}
-use Rattle.sheets.specs.Fields.{number, number_fields, number_place}
+use Rattle.std.proofs.Common.{◌<◌, [], ◌∷◌, length, Ok, Err, ◌∙◌, arith}
+use Rattle.sheets.specs.Fields.{number}
 use Rattle.sheets.proofs.Firsts.{fault_at_lem, in_one}
 use Rattle.readers.proofs.Exits.{broke}
-use Rattle.readers.proofs.Weighing.{Numbering, number_read, numbering_none, numbering_more}
+use Rattle.readers.proofs.Weighing.{number_read, numbering_more}
 use Rattle.readers.proofs.parts.read_numbers.Goals as goal
-
-pub loop-part-init : goal.loop-part-init
-loop-part-init g c = (refl, λ k w at. numbering_none g.W.Weight c.args.cursor.now.bytes.now k c.args.cursor.now c.args.parts.now refl w at)
 
 pub loop-part-preserved : goal.loop-part-preserved
 loop-part-preserved g c = (
@@ -34,15 +30,6 @@ returns-in_err-part-clause-reads g c = λ k w at.
     let d = c.in_err-part.field-0.0 in
     let was = c.loop-part.invariant.1 k w at in
     let t = number_read wt bs k c.loop-part.cursor a i (Err d) was.stands was.within c.in_err-part.ensures in
-    let p = err_from_is_err_and c.from_residual.result c.from_residual.ensures.1 in
     let lt : i < n = omega arith in
-    broke wt bs (number_fields k n) a (number_place wt bs k n) _ c.from_residual.result p.0 d p.1 p.2
+    broke c.from_residual.ensures.1
     (fault_at_lem wt bs (λ j. number k j ∷ []) n i d lt was.clear (in_one wt bs (number k i) d t.0))
-
-pub returns-clause-reads : goal.returns-clause-reads
-returns-clause-reads g c = λ k w at.
-    let wt = g.W.Weight in
-    let bs = c.args.cursor.now.bytes.now in
-    let e : c.loop-part.part-index ≡ length c.args.parts.now = omega arith in
-    let v = subst (λ n. Numbering wt bs k n c.loop-part.cursor c.loop-part.part-items) e (c.loop-part.invariant.1 k w at) in
-    record { taken = (v.clear, v.numbers); moved = v.stands }

@@ -1,9 +1,7 @@
-use Rattle.std.proofs.Common.{◌≡◌, ◌+◌, ◌*◌, ◌≤◌, ℕ, [], ◌∷◌, ◌++◌, length, take, Ok, Err, ◌∙◌, subst, arith}
+use Rattle.std.proofs.Common.{◌≡◌, ◌+◌, ◌*◌, ◌≤◌, ℕ, [], ◌∷◌, length, take, ap, ◌∙◌, arith}
 use Rattle.std.proofs.lemmas.List.{length-take-le}
-use Rattle.std.proofs.lemmas.Result.{err_from_is_err_and}
 use Rattle.sheets.specs.Fields.{weight, number_fields, number_place}
 use Rattle.sheets.proofs.Firsts.{in_left}
-use Rattle.readers.specs.Records.{Numbers, Reads, Weighed}
 use Rattle.readers.proofs.Exits.{broke}
 use Rattle.readers.proofs.Weighing.{weight_told}
 use Rattle.readers.proofs.parts.read_weight.Goals as goal
@@ -19,9 +17,8 @@ returns-in_err-read_numbers-clause-reads g c = λ k w at total.
     let a = c.read_numbers.new.cursor in
     let d = c.in_err-read_numbers.field-0.0 in
     let count = counted c.part_count.result wt.arity c.part_count.ensures g.met.W.Weight.exact.few in
-    let n = subst (λ m. Reads wt bs (number_fields k m) (Err d) a (number_place wt bs k m) (λ (_ : Unit {0}). Numbers wt bs k m c.read_numbers.new.parts)) count (c.in_err-read_numbers.ensures.reads k w at) in
-    let p = err_from_is_err_and c.from_residual.result c.from_residual.ensures.1 in
-    broke wt bs (number_fields k wt.arity ++ (weight k ∷ [])) a (number_place wt bs k wt.arity) (Weighed wt bs k) c.from_residual.result p.0 d p.1 p.2
+    let n = rw count at (c.in_err-read_numbers.ensures.reads k w at) in
+    broke c.from_residual.ensures.1
     (in_left wt bs (number_fields k wt.arity) (weight k ∷ []) d n.taken)
 
 pub returns-clause-reads : goal.returns-clause-reads
@@ -32,7 +29,7 @@ returns-clause-reads g c = λ k w at total.
     let parts = c.read_numbers.new.parts in
     let told = c.in_ok-read_numbers.ensures in
     let count = counted c.part_count.result wt.arity c.part_count.ensures g.met.W.Weight.exact.few in
-    let n = subst (λ m. Reads wt bs (number_fields k m) (Ok c.in_ok-read_numbers.field-0) a (number_place wt bs k m) (λ (_ : Unit {0}). Numbers wt bs k m parts)) count (told.reads k w at) in
-    let len : number_place wt bs k 0 + 4 * wt.arity ≤ length bs = subst (λ xs. number_place wt bs k 0 + 4 * wt.arity ≤ length xs) n.moved.bytes (omega (arith, a.within, n.moved.place)) in
+    let n = rw count at (told.reads k w at) in
+    let len : number_place wt bs k 0 + 4 * wt.arity ≤ length bs = omega (arith, a.within, n.moved.place, ap length n.moved.bytes) in
     weight_told wt bs k g.met.W.Weight.exact parts n.taken.1 a c.args.total total n.taken.0 n.moved len
     c.place-place.result a.part c.judge.result c.judged.result (c.place-place.ensures ∙ at) (told.part ∙ w) c.judge.ensures c.judged.ensures
