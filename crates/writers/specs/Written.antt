@@ -1,5 +1,6 @@
 -- What write is refused with, and what stands in the lent bytes after it.
-use Rattle.std.specs.Prelude.{◌≡◌, ℕ, Bool, false, not, ◌&&◌, ◌||◌, List, [], ◌∷◌, length, take, drop, IfOk, IfErr, Some, Option, Result, ◌==◌, nat_le}
+use Rattle.std.specs.Prelude.{◌≡◌, ℕ, Bool, not, ◌&&◌, ◌||◌, List, length, take, drop, IfOk, IfErr, Some, Option, Result, ◌==◌, nat_le}
+use Rattle.std.specs.List.{list_any}
 use Rattle.refusals.specs.declared.Refusal.{Refusal}
 use Rattle.refusals.specs.declared.Refusal.TheVariants.{UnknownIssue, LongCode, ShortMemory}
 use Rattle.weights.specs.declared.weight.Weight.{Ghosts}
@@ -11,8 +12,7 @@ use Rattle.sheets.specs.Format.{sheet_of, Valid}
 
 -- some code has seven characters
 abbrev pub has_long_code : List (List ℕ) → Bool
-has_long_code [] = false
-has_long_code (text ∷ texts) = length text == 7 || has_long_code texts
+has_long_code texts = list_any (λ text. length text == 7) texts
 
 module _ {W : Type 0} (g : Ghosts W) (m : Model W) (number : ℕ) where
   -- the sheet of the plan in the issue with that number

@@ -1,7 +1,7 @@
 // Writes fields into lent bytes, one after the other.
 ghost use Rattle.std.specs.Prelude.{◌≡◌, ◌≤◌, [], ◌∷◌, length};
 
-// The lent bytes, and the index of the next field: each field that is put moves the pen behind itself.
+// The lent bytes, and the index of the next field. Each field that is put moves the pen on.
 #[derive(Drop)]
 pub(crate) struct Pen<'a> {
     out: &'a mut [u8],
@@ -12,7 +12,7 @@ pub(crate) struct Pen<'a> {
 impl<'a> Pen<'a> {
     ghost use Rattle.writers.specs.Fields.{Fits, Wrote};
 
-    // At the first of the bytes.
+    // At the first byte.
     pub(crate) fn over(out: &'a mut [u8]) -> Pen<'a>
         ensures lent { result.out.ghost_name ≡ out.entry.ghost_name }
         ensures bytes { result.out.now ≡ out.old }
@@ -21,7 +21,7 @@ impl<'a> Pen<'a> {
         Pen { out, at: 0 }
     }
 
-    // How many bytes are written.
+    // The index of the next field.
     pub(crate) fn place(&self) -> usize
         ensures { result ≡ self.now.at }
     {

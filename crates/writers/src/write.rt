@@ -5,7 +5,7 @@ ghost use Rattle.std.specs.Prelude.{◌≡◌, ◌==◌, map, length, MatchResul
 ghost use Rattle.plans.specs.Model.{code_of, model_of};
 ghost use Rattle.sheets.specs.Format.{Valid, sheet_of};
 ghost use Rattle.writers.specs.Fields.{Put, Room};
-ghost use Rattle.writers.specs.Written.{Fitting, Refusing, Written, has_long_code};
+ghost use Rattle.writers.specs.Written.{Fitting, Refusing, Written};
 
 use crate::pen::Pen;
 use crate::records::{put_codes, put_head, put_links};
@@ -35,7 +35,7 @@ fn issue_for<W: Weight>(plan: &Plan<W>, number: u16) -> Result<Issue, Refusal>
 
 // How many bytes the sheet has: nine in the head, a field for each code, and for each link two ends, a mark and its parts.
 fn sheet_size<W: Weight>(plan: &Plan<W>, issue: Issue) -> usize
-    requires valid { Valid W.Weight issue (model_of plan.now) }
+    requires { Valid W.Weight issue (model_of plan.now) }
     ensures { result ≡ length (sheet_of W.Weight issue (model_of plan.now)) }
 {
     let codes = plan.unit_count() * issue.code_size();
@@ -45,7 +45,7 @@ fn sheet_size<W: Weight>(plan: &Plan<W>, issue: Issue) -> usize
 
 // Puts the sheet at the start of the lent bytes: head, codes, links.
 fn put_sheet<W: Weight>(out: &mut [u8], plan: &Plan<W>, issue: Issue) -> usize
-    requires room { Room out.old 0 (sheet_of W.Weight issue (model_of plan.now)) }
+    requires { Room out.old 0 (sheet_of W.Weight issue (model_of plan.now)) }
     ensures { Put out.old 0 (sheet_of W.Weight issue (model_of plan.now)) result out.new }
 {
     let mut pen = Pen::over(out);
