@@ -1,22 +1,18 @@
 -- A sheet without faults is the sheet of the plan that is made from it.
 use Rattle.std.proofs.Common.{◌≡◌, ℕ, zero, suc, ◌+◌, ◌*◌, ◌<◌, ◌≤◌, Bool, true, false, cond, eqb, List, [], ◌∷◌, ◌++◌, length, get_or, take, drop, Some, None, Option, sym, refl, ap, ◌∙◌, subst, ap₂, ⊎_elim, suc-mul, zero-mul, add-one, arith}
 use Rattle.std.specs.List.{flat_map, AllByRecursion}
-use Rattle.std.proofs.ByRecursion.{All-map, All-push, all_from_every}
-use Rattle.std.proofs.lemmas.List.{take_all, take_more, length-map, length-take, length-take-le, length-drop, length_push, get_or-take, get_or_push, get_or_append_left, take-append-le, flat_map_more}
+use Rattle.std.proofs.ByRecursion.{All-push}
+use Rattle.std.proofs.lemmas.List.{take_all, take_more, length-take, length-take-le, length-drop, length_push, get_or_push, get_or_append_left, take-append-le, flat_map_more}
 use Rattle.std.proofs.lemmas.Bool.{cases_Bool, cases_lt, cond-true, cond-false, eq-eqb, eqb-true, not-true}
 use Rattle.refusals.specs.declared.Refusal.{Refusal}
 use Rattle.weights.specs.declared.weight.Weight.{Ghosts}
-use Rattle.codes.specs.Code.{is_code}
-use Rattle.plans.specs.declared.plan.Plan.{Plan}
-use Rattle.plans.specs.declared.plan.Unit.{Unit as Record}
 use Rattle.plans.specs.Calls.{check}
-use Rattle.plans.specs.Model.{Model, model_of, code_of}
-use Rattle.plans.specs.Sound.{Joins}
+use Rattle.plans.specs.Model.{Model}
 use Rattle.sheets.specs.declared.issue.Issue.{Issue}
 use Rattle.sheets.specs.declared.issue.Issue.TheVariants.{First, Second}
 use Rattle.sheets.specs.Fields.{Field, code, bytes_at, code_fields, code_place, issue_in, link_place, links_in, text_in, text_of, texts_in, units_in, place_of, part_of}
 use Rattle.sheets.specs.Faults.{fault_of, fault_with, wrong, Faultless}
-use Rattle.sheets.specs.Format.{Valid, code_field, size_of_code, bytes_of_head, link_size, sheet_of}
+use Rattle.sheets.specs.Format.{code_field, size_of_code, bytes_of_head, link_size, sheet_of}
 use Rattle.sheets.proofs.Firsts.{none_some}
 use Rattle.readers.specs.Loads.{Apart, Loaded}
 use Rattle.readers.proofs.Filling.{clear_at, left_clear}
@@ -130,26 +126,3 @@ module _ {W : Type 0} (g : Ghosts W) (bs : List ℕ) where
       ∙ ap₂ (λ x y. bytes_of_head g i (length m.codes) (length m.links) ++ (x ++ y))
       (codes_bytes u clear ∙ ap (flat_map (code_field i)) (sym texts))
       (ap (λ p. bytes_at bs p ls) first ∙ loaded.bytes)))))
-
--- every plan whose codes have room is within the rules
-pub valid : {W : Type 0} {g : Ghosts W} (i : Issue) (p : Plan W g) → AllByRecursion (λ text. length text ≤ size_of_code i) (model_of p).codes → Valid g i (model_of p)
-valid {g = g} i p fit =
-    let s = p.sound in
-    let us = take p.unit_count p.units in
-    let n : length (model_of p).codes ≡ p.unit_count = length-map us code_of ∙ length-take-le p.unit_count p.units (let a = s.few in let b = s.table in omega arith) in
-    let m : length (model_of p).links ≡ p.link_count = length-take-le p.link_count p.links.now (let a = s.short in let b = s.memory in omega arith) in
-    record {
-      few = let a = s.few in omega arith;
-      short = let a = s.short in omega arith;
-      codes = All-map (λ text. is_code text ≡ true) code_of us (are-codes us);
-      fit = fit;
-      distinct = s.distinct;
-      joins = all_from_every (Joins g (length (model_of p).codes)) (model_of p).links (λ k d low high.
-          let in-it : k < p.link_count = omega arith in
-          subst (λ x. Joins g (length (model_of p).codes) x) (sym (get_or-take p.link_count p.links.now k d in-it)) (subst (λ x. Joins g x (get_or p.links.now k d)) (sym n) (s.joins k d low in-it)));
-      limited = let a = s.counted in let b = s.limited in omega arith;
-    }
-  where
-    are-codes : (us : List Record) → AllByRecursion (λ u. is_code (code_of u) ≡ true) us
-    are-codes [] = tt
-    are-codes (u ∷ us) = (u.code.code, are-codes us)

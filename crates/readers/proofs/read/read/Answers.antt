@@ -3,7 +3,8 @@ use Rattle.std.specs.List.{AllByRecursion}
 use Rattle.plans.specs.Model.{code_of, model_of}
 use Rattle.sheets.specs.Fields.{end, issue_in, link_fields, links_in, texts_in, through, units_in}
 use Rattle.sheets.specs.Format.{size_of_code, bytes_of_head}
-use Rattle.readers.proofs.Assembly.{apart, assembled, length_texts, texts_fit, valid}
+use Rattle.sheets.proofs.Within.{within}
+use Rattle.readers.proofs.Assembly.{apart, assembled, length_texts, texts_fit}
 use Rattle.readers.proofs.Filling.{left_clear}
 use Rattle.readers.proofs.Whole.{head_fault, code_fault, link_fault, all_right, refuses, accepts}
 use Rattle.readers.proofs.read.read.Goals as goal
@@ -81,5 +82,5 @@ returns g c =
     let fit = subst (λ ts. AllByRecursion (λ text. length text ≤ size_of_code (issue_in bs)) ts) (sym (loaded.codes ∙ codes)) (texts_fit bs (units_in bs)) in
     accepts w bs met.exact met.bounded met.narrow met.told c.args.plan.now p
     (all_right w bs h.taken.0 u.taken.0 v.taken.0)
-    (valid (issue_in bs) p fit)
+    (within p (issue_in bs) fit)
     (assembled w bs before (model_of p) (sym v.taken.1) head u.taken.0 codes loaded)
