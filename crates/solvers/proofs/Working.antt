@@ -1,5 +1,5 @@
 -- From an outcome of the work over the links of a table to the answer of a plan.
-use Rattle.std.proofs.Common.{◌≡◌, ℕ, zero, suc, ◌*◌, ◌<◌, ◌≤◌, false, List, [], ◌∷◌, length, take, drop, sym, ◌∙◌, subst, arith}
+use Rattle.std.proofs.Common.{◌≡◌, ℕ, ◌*◌, ◌<◌, ◌≤◌, false, List, [], ◌∷◌, length, take, drop, sym, ◌∙◌, subst, arith}
 use Rattle.weights.specs.declared.weight.Weight.{Ghosts}
 use Rattle.cuts.specs.declared.entry.Entry.{Entry}
 use Rattle.cuts.specs.Kinds.{kind_of, Lawful}
@@ -24,8 +24,8 @@ module _ {W : Type 0} (g : Ghosts W) where
       let K = kind_of g in
       let v = g.value answer.figure in
       let record' = take answer.mergers entries in
-      let allowed = subst (λ k. Outcome K k (links_of g m) v marks record' answer.scans) units (subst (λ js. Outcome K n js v marks record' answer.scans) links outcome) in
-      let light' = subst (λ k. Light K k (links_of g m)) units (subst (Light K n) links light) in
+      let allowed : Outcome K (length m.codes) (links_of g m) v marks record' answer.scans = rw units at (rw links at outcome) in
+      let light' : Light K (length m.codes) (links_of g m) = rw units at (rw links at light) in
       record {
         new = new;
         room = omega arith;
@@ -44,13 +44,7 @@ module _ {W : Type 0} (g : Ghosts W) where
       let r = subst (λ i. Room i ws ms es) (sym units) room in
       record { most = r.most; weights = let h = r.weights in omega arith; marks = r.marks; entries = r.entries }
 
--- a link joins two units
-two_units : (a b n : ℕ) → a < n → b < n → (a ≡ b → ⊥) → 2 ≤ n
-two_units a b zero p q apart = absurd (omega arith)
-two_units a b (suc zero) p q apart = absurd (apart (omega arith))
-two_units a b (suc (suc n)) p q apart = omega arith
-
--- so a plan that has a link has two units
+-- a link joins two units, so a plan that has a link has two units
 pub joined_two : {W : Type 0} (g : Ghosts W) (n : ℕ) (ls : List (Link W)) (k : ℕ) → k < length ls → AllWithin (Joins g n) ls 0 (length ls) → 2 ≤ n
 joined_two g n [] k lt joins = absurd (omega arith)
-joined_two g n (x ∷ xs) k lt joins = let j = joins k x (omega arith) lt in two_units _ _ n j.first j.second j.apart
+joined_two g n (x ∷ xs) k lt joins = let j = joins k x (omega arith) lt in let a = j.first in let b = j.second in let apart = j.apart in grind arith

@@ -5,7 +5,6 @@ ghost use Rattle.cuts.specs.Links.{Link as Joint, Sound as Light};
 ghost use Rattle.cuts.specs.Outcomes.{Outcome};
 ghost use Rattle.contractions.specs.Progress.{Room};
 ghost use Rattle.plans.specs.Model.{model_of};
-ghost use Rattle.plans.specs.Sound.{Sound};
 ghost use Rattle.solvers.specs.Answers.{LeftBehind, QueueLeft, WorkedOut};
 ghost use Rattle.tables.specs.Meaning.{Holds};
 
@@ -13,9 +12,9 @@ use crate::answer::Answer;
 use contractions::contraction::contract;
 use cuts::entry::Entry;
 use fills::fill::{copy_marks, fill};
-use plans::plan::Plan;
+use plans::plan::{LINKS, Plan};
 use queues::queue::PriorityQueue;
-use tables::table::clear;
+use tables::table::Table;
 use weights::weight::Weight;
 
 // Works out the figure from a filled table, and leaves the table as nothing.
@@ -37,7 +36,7 @@ pub fn work_out<W: Weight, Q: PriorityQueue<Weight = W>>(
     ensures queue { QueueLeft Q.PriorityQueue.key result.scans queue.old queue.new }
 {
     let progress = contract(queue, table, n, marks, entries);
-    clear(table, n * n);
+    Table::over(table, n).clear();
     Answer {
         figure: progress.best,
         mergers: progress.mergers,
@@ -54,7 +53,6 @@ pub fn solve<W: Weight, Q: PriorityQueue<Weight = W>>(
     entries: &mut [Entry],
     table: &mut [W],
 ) -> Answer<W>
-    requires plan { Sound W.Weight plan.now }
     requires queue { Q.PriorityQueue.sound queue.old }
     requires some { 2 ≤ length (model_of plan.now).codes }
     requires room { Room (length (model_of plan.now).codes) table.old marks.old entries.old }
@@ -65,8 +63,9 @@ pub fn solve<W: Weight, Q: PriorityQueue<Weight = W>>(
 {
     let n = plan.unit_count();
     let links = plan.links();
-    let mut in_service = [0; 512];
+    // No heap: a mark for as many links as there can be, lent beside the links, as one of them can be put out and back.
+    let mut in_service = [0; LINKS];
     copy_marks(links, &mut in_service);
-    fill(table, n, links, &in_service);
+    fill(&mut Table::over(table, n), links, &in_service);
     work_out(queue, table, n, marks, entries)
 }
