@@ -42,10 +42,7 @@ impl<W: Weight> TiedQueue<W> {
         ensures key { result ≡ keyed self.now.keys group }
         ensures within { Within result group }
     {
-        if group >= GROUPS {
-            return None;
-        }
-        self.keys[group]
+        self.keys.get(group).copied().flatten()
     }
 
     // A heaviest entry: of equally heavy ones that of the group that comes first.
@@ -86,7 +83,7 @@ impl<W: Weight> PriorityQueue for TiedQueue<W> {
         if group >= GROUPS {
             return Err(Refusal::NoSuchUnit);
         }
-        if let Some(_) = self.key_of(group) {
+        if self.key_of(group).is_some() {
             return Err(Refusal::AlreadyWaiting);
         }
         self.keys[group] = Some(weight);
@@ -94,18 +91,14 @@ impl<W: Weight> PriorityQueue for TiedQueue<W> {
     }
 
     fn raise(&mut self, group: usize, by: W) -> Result<W, Refusal> {
-        let Some(old) = self.key_of(group) else {
-            return Err(Refusal::NotWaiting);
-        };
+        let old = self.key_of(group).ok_or(Refusal::NotWaiting)?;
         let key = old.sum(by)?;
         self.keys[group] = Some(key);
         Ok(key)
     }
 
     fn take(&mut self) -> Option<(usize, W)> {
-        let Some((group, key)) = self.pick() else {
-            return None;
-        };
+        let (group, key) = self.pick()?;
         self.keys[group] = None;
         Some((group, key))
     }
