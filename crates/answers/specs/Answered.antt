@@ -53,7 +53,7 @@ pub record Memory (W : Type 0) : Type 0 where
 abbrev pub memory : {W : Type 0} → List ℕ → List Entry → List W → Memory W
 memory marks entries weights = record { marks = marks; entries = entries; weights = weights }
 
-module _ {W : Type 0} (g : Ghosts W) (before after : Filing W) (lent left : Memory W) (a : Answer W) where
+module _ {W : Type 0} (g : Ghosts W) (before after : Filing W g) (lent left : Memory W) (a : Answer W) where
   -- kept marks are answered with their present weight, without mergers or scans, and only the marks are written
   pub record FromKept : Type 0 where
     pub kept : a.kept ≡ true
@@ -82,5 +82,5 @@ module _ {W : Type 0} (g : Ghosts W) (before after : Filing W) (lent left : Memo
     pub kept : after.kept ≡ before.kept
 
 -- a refused call leaves the filing and all lent memory as they were
-abbrev pub Unchanged : {W : Type 0} → Filing W → Filing W → Memory W → Memory W → Type 0
+abbrev pub Unchanged : {W : Type 0} {g : Ghosts W} → Filing W g → Filing W g → Memory W → Memory W → Type 0
 Unchanged before after lent left = (after ≡ before) × (left ≡ lent)

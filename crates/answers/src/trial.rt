@@ -4,7 +4,6 @@ ghost use Rattle.answers.specs.Answered.{Judged, Least, memory, trial_verdict, T
 ghost use Rattle.contractions.specs.Progress.{Room};
 ghost use Rattle.filings.specs.Filed.{Filed};
 ghost use Rattle.plans.specs.Model.{marked, model_of};
-ghost use Rattle.plans.specs.Sound.{Sound};
 ghost use Rattle.solvers.specs.Answers.{QueueLeft};
 
 use crate::room::check_room;
@@ -12,10 +11,12 @@ use cuts::entry::Entry;
 use filings::filing::Filing;
 use fills::fill::copy_marks;
 use fills::guard::fill_without;
+use plans::plan::LINKS;
 use queues::queue::PriorityQueue;
 use refusals::Refusal;
 use solvers::answer::Answer;
 use solvers::solve::work_out;
+use tables::table::Table;
 use weights::weight::Weight;
 
 // Works the answer out with one link out of service. The marks of the links are copied out, lent beside the links while the
@@ -28,11 +29,9 @@ fn solve_without<W: Weight, Q: PriorityQueue<Weight = W>>(
     entries: &mut [Entry],
     table: &mut [W],
 ) -> Answer<W>
-    requires plan { Sound W.Weight filing.old.plan }
     requires link { link < length (model_of filing.old.plan).links }
     requires queue { Q.PriorityQueue.sound queue.old }
     requires room { Room (length (model_of filing.old.plan).codes) table.old marks.old entries.old }
-    ensures plan { Sound W.Weight filing.new.plan }
     ensures filed { Filed W.Weight filing.old → Filed W.Weight filing.new }
     ensures sound { Q.PriorityQueue.sound queue.new }
     ensures tried { Tried W.Weight filing.old filing.new (memory marks.old entries.old table.old) (memory marks.new entries.new table.new) result link }
@@ -41,14 +40,16 @@ fn solve_without<W: Weight, Q: PriorityQueue<Weight = W>>(
     let plan = filing.plan();
     let n = plan.unit_count();
     let links = plan.links();
-    let mut in_service = [0; 512];
+    // no heap, as for an answer without a trial
+    let mut in_service = [0; LINKS];
     copy_marks(links, &mut in_service);
-    fill_without(table, n, links, &mut in_service, link);
+    fill_without(&mut Table::over(table, n), links, &mut in_service, link);
     filing.put_marks(&in_service);
     work_out(queue, table, n, marks, entries)
 }
 
 // The weakest division with one link out of service, never from kept marks and without touching them: 13, 17.
+// Queue, marks, entries and table are lent each by itself, as for `weakest`.
 pub fn trial<W: Weight, Q: PriorityQueue<Weight = W>>(
     filing: &mut Filing<W>,
     link: usize,
@@ -57,9 +58,7 @@ pub fn trial<W: Weight, Q: PriorityQueue<Weight = W>>(
     entries: &mut [Entry],
     table: &mut [W],
 ) -> Result<Answer<W>, Refusal>
-    requires plan { Sound W.Weight filing.old.plan }
     requires queue { Q.PriorityQueue.sound queue.old }
-    ensures plan { Sound W.Weight filing.new.plan }
     ensures filed { Filed W.Weight filing.old → Filed W.Weight filing.new }
     ensures sound { Q.PriorityQueue.sound queue.new }
     ensures verdict { Judged (trial_verdict (model_of filing.old.plan) link (length marks.old) (length entries.old) (length table.old)) result }
@@ -73,6 +72,6 @@ pub fn trial<W: Weight, Q: PriorityQueue<Weight = W>>(
     if link >= plan.link_count() {
         return Err(Refusal::NoSuchLink);
     }
-    check_room(n, marks.len(), entries.len(), table.len())?;
+    check_room(n, marks, entries, table)?;
     Ok(solve_without(filing, link, queue, marks, entries, table))
 }

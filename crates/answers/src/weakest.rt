@@ -6,7 +6,6 @@ ghost use Rattle.cuts.specs.Kinds.{kind_of};
 ghost use Rattle.filings.specs.Filed.{Current, Filed};
 ghost use Rattle.plans.specs.Divided.{links_of, side_of};
 ghost use Rattle.plans.specs.Model.{model_of};
-ghost use Rattle.plans.specs.Sound.{Sound};
 ghost use Rattle.solvers.specs.Answers.{QueueLeft};
 
 use crate::room::check_room;
@@ -20,7 +19,6 @@ use weights::weight::Weight;
 
 // Writes the kept marks, and answers them with their present weight.
 fn answer_kept<W: Weight>(filing: &Filing<W>, marks: &mut [u8]) -> Answer<W>
-    requires plan { Sound W.Weight filing.now.plan }
     requires room { length (model_of filing.now.plan).codes ≤ length marks.old }
     ensures kept { result.kept ≡ true }
     ensures mergers { result.mergers ≡ 0 }
@@ -41,6 +39,7 @@ fn answer_kept<W: Weight>(filing: &Filing<W>, marks: &mut [u8]) -> Answer<W>
 }
 
 // The weakest division: 15 below two units, then 17. Kept marks are answered as they are; else they are worked out and kept.
+// Queue, marks, entries and table are lent each by itself, as the rules want: 17 speaks of the size of each.
 pub fn weakest<W: Weight, Q: PriorityQueue<Weight = W>>(
     filing: &mut Filing<W>,
     queue: &mut Q,
@@ -48,9 +47,7 @@ pub fn weakest<W: Weight, Q: PriorityQueue<Weight = W>>(
     entries: &mut [Entry],
     table: &mut [W],
 ) -> Result<Answer<W>, Refusal>
-    requires plan { Sound W.Weight filing.old.plan }
     requires queue { Q.PriorityQueue.sound queue.old }
-    ensures plan { Sound W.Weight filing.new.plan }
     ensures filed { Filed W.Weight filing.old → Filed W.Weight filing.new }
     ensures sound { Q.PriorityQueue.sound queue.new }
     ensures verdict { Judged (weakest_verdict (model_of filing.old.plan) (length marks.old) (length entries.old) (length table.old)) result }
@@ -68,7 +65,7 @@ pub fn weakest<W: Weight, Q: PriorityQueue<Weight = W>>(
     if n < 2 {
         return Err(Refusal::NoDivision);
     }
-    check_room(n, marks.len(), entries.len(), table.len())?;
+    check_room(n, marks, entries, table)?;
     if filing.kept().is_kept() {
         return Ok(answer_kept(filing, marks));
     }

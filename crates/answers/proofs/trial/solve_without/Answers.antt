@@ -6,7 +6,7 @@ use Rattle.plans.specs.Model.{changed, marked, model_of, total_of}
 use Rattle.plans.specs.Sound.{Joins}
 use Rattle.fills.specs.Served.{served}
 use Rattle.fills.proofs.Serving.{served_out, served_sound}
-use Rattle.solvers.proofs.Working.{joined_two, left_behind, room_for, worked}
+use Rattle.solvers.proofs.Working.{joined_two, worked}
 use Rattle.answers.proofs.trial.solve_without.Goals as goal
 
 pub put_marks-requires : goal.put_marks-requires
@@ -14,28 +14,19 @@ put_marks-requires g c =
     let m = model_of c.args.filing.now.plan in
     let value = c.links-links.ensures.value ∙ ap (λ p. (model_of p).links) c.plan-plan.ensures in
     record {
-      sound = c.requires.plan;
       size = search rules;
       shows = subst (λ ms. Shows ms m.links) (sym c.fill_without.ensures.same) (subst (Shows c.copy_marks.new.marks) value c.copy_marks.ensures.shows);
     }
 
-pub work_out-requires : goal.work_out-requires
-work_out-requires g c =
-    let w = g.W.Weight in
-    let n = c.unit_count-n.result in
+pub work_out-requires-clause-some : goal.work_out-requires-clause-some
+work_out-requires-clause-some g c =
     let links = c.links-links.result.now in
-    let is = c.plan-plan.ensures in
-    let units = c.unit_count-n.ensures.units ∙ ap (λ p. length (model_of p).codes) is in
-    let value = c.links-links.ensures.value ∙ ap (λ p. (model_of p).links) is in
-    let joins = subst (λ k. AllWithin (Joins w k) links 0 (length links)) (sym c.unit_count-n.ensures.value) c.links-links.ensures.joins in
-    record {
-      queue = c.requires.queue;
-      some = joined_two w n links c.args.link (let e = ap length value in let h = c.requires.link in omega arith) joins;
-      room = room_for w n _ units c.args.table.now c.fill_without.new.table c.args.marks.now c.args.entries.now c.fill_without.auto.table c.requires.room;
-    }
+    let value = c.links-links.ensures.value ∙ ap (λ p. (model_of p).links) c.plan-plan.ensures in
+    let joins = subst (λ k. AllWithin (Joins g.W.Weight k) links 0 (length links)) (sym c.unit_count-n.ensures.value) c.links-links.ensures.joins in
+    joined_two g.W.Weight c.unit_count-n.result links c.args.link (let e = ap length value in let h = c.requires.link in omega arith) joins
 
-pub returns : goal.returns
-returns g c =
+pub returns-clause-tried : goal.returns-clause-tried
+returns-clause-tried g c =
     let w = g.W.Weight in
     let n = c.unit_count-n.result in
     let m = model_of c.args.filing.now.plan in
@@ -44,22 +35,16 @@ returns g c =
     let is = c.plan-plan.ensures in
     let units = c.unit_count-n.ensures.units ∙ ap (λ p. length (model_of p).codes) is in
     let value = c.links-links.ensures.value ∙ ap (λ p. (model_of p).links) is in
-    let s = c.requires.plan in
+    let s = c.args.filing.now.plan.sound in
     let joins = subst (λ k. AllWithin (Joins w k) links 0 (length links)) (sym c.unit_count-n.ensures.value) c.links-links.ensures.joins in
     let total : total_of w links ≤ 1000000 = let e = ap (total_of w) value in let a = s.counted in let b = s.limited in omega arith in
     let light = served_sound w marks n links joins total in
     let out = served_out w c.copy_marks.new.marks c.args.link links c.copy_marks.ensures.shows ∙ ap (λ ls. map (valued w) (changed c.args.link (λ l. with_mark l false) ls)) value in
     let e = c.work_out.ensures in
     record {
-      plan = c.put_marks.ensures.sound;
-      filed = c.put_marks.ensures.filed;
-      sound = e.sound;
-      tried = record {
-        answer = worked w g.met.W.Weight.laws (marked c.args.link false m) n units (served w marks links) out light (joined_two w n links c.args.link (let e = ap length value in let h = c.requires.link in omega arith) joins) c.work_out.result c.work_out.new.marks c.work_out.new.entries
-            e.new e.mergers (let a = c.requires.room.entries in let k = c.work_out.auto.entries in omega arith) (e.outcome (served w marks links) light (c.fill_without.ensures.holds total));
-        behind = left_behind w n _ _ units c.args.table.now c.fill_without.new.table c.work_out.new.table c.args.marks.now c.work_out.new.marks c.args.entries.now c.work_out.new.entries c.fill_without.ensures.rest e.memory;
-        plan = c.put_marks.ensures.same;
-        kept = c.put_marks.ensures.kept;
-      };
-      queue = e.queue;
+      answer = worked w g.met.W.Weight.laws (marked c.args.link false m) n units (served w marks links) out light (joined_two w n links c.args.link (let e = ap length value in let h = c.requires.link in omega arith) joins) c.work_out.result c.work_out.new.marks c.work_out.new.entries
+          e.new e.mergers (let a = c.requires.room.entries in let k = c.work_out.auto.entries in omega arith) (e.outcome (served w marks links) light (let filled = c.fill_without.ensures.holds total in search rules));
+      behind = search rules;
+      plan = c.put_marks.ensures.same;
+      kept = c.put_marks.ensures.kept;
     }

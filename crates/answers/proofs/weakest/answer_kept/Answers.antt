@@ -19,7 +19,7 @@ returns g c =
       kept = refl;
       mergers = refl;
       scans = refl;
-      figure = c.cut.ensures ∙ ap (λ p. weighed w (model_of p) (take (n - 0) c.write.new.marks)) is ∙ part_weighed w g.met.W.Weight.laws m (fair_plan w f.plan c.requires.plan) n units c.write.new.marks f.kept.sides front;
+      figure = c.cut.ensures ∙ ap (λ p. weighed w (model_of p) (take (n - 0) c.write.new.marks)) is ∙ part_weighed w g.met.W.Weight.laws m (fair_plan f.plan) n units c.write.new.marks f.kept.sides front;
       front = subst (λ k. take k c.write.new.marks ≡ take k f.kept.sides) units front;
       rest = subst (λ k. drop k c.write.new.marks ≡ drop k c.args.marks.now) units c.write.ensures.rest;
     }
