@@ -85,17 +85,11 @@ fours_at f (suc n) i j lt small =
     ∙ (let e : 4 * i + j - 4 * n ≡ j = omega arith in ap (λ x. get_or (four (f n)) x 0) e ∙ ap (λ x. get_or (four (f x)) j 0) (sym s)))
     (cases_lt i n)
 
-digits : (x y z u a b c d : ℕ) → x ≡ a + y * 256 → y ≡ b + z * 256 → z ≡ c + u * 256 → u ≡ d → a + b * 256 + c * 65536 + d * 16777216 ≡ x
-digits x y z u a b c d p q r e = omega arith
-
 pub four_digits : (x : ℕ) → x < 2 ^ 32 → x % 256 + x / 256 % 256 * 256 + x / 65536 % 256 * 65536 + x / 16777216 % 256 * 16777216 ≡ x
 four_digits x h =
-    let y = x / 256 in
-    let z = x / 65536 in
-    let u = x / 16777216 in
-    let p : z ≡ y / 256 = sym (div-div-eq-div-mul x 256 256) in
-    let q : u ≡ z / 256 = sym (div-div-eq-div-mul x 65536 256) in
-    digits x y z u (x % 256) (y % 256) (z % 256) (u % 256) (omega arith) (omega arith) (omega arith) (omega arith)
+    let p = div-div-eq-div-mul x 256 256 in
+    let q = div-div-eq-div-mul x 65536 256 in
+    omega arith
 
 module _ {W : Type 0} (g : Ghosts W) (i : Issue) (m : Model W) (v : Valid g i m) where
   abbrev S : List ℕ
