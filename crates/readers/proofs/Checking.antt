@@ -24,9 +24,9 @@ pub record Passing {W : Type 0} (g : Ghosts W) (bs : List ℕ) (k : ℕ) (c : Cu
   pub limited : total ≤ most_total
 
 module _ {W : Type 0} (g : Ghosts W) (bs : List ℕ) where
-  pub passing_more : (k : ℕ) (c a : Cursor) (total amount : ℕ) (l : Link W) → Passing g bs k c total → Reads g bs (link_fields g bs k) (Ok l) a (link_place g bs (k + 1)) (Linked g bs k)
+  pub passing_more : {k : ℕ} {c a : Cursor} {total amount : ℕ} {l : Link W} → Passing g bs k c total → Reads g bs (link_fields g bs k) (Ok l) a (link_place g bs (k + 1)) (Linked g bs k)
       → amount ≡ amount_of g l.weight → Passing g bs (k + 1) a (total + amount)
-  passing_more k c a total amount l was t e =
+  passing_more {k} {c} {a} {total} {amount} {l} was t e =
       let told = t.taken.1 in
       let sum : total + amount ≡ total_in g bs k + amount_of g l.weight = let s = was.sum in omega arith in
       record {
@@ -37,18 +37,18 @@ module _ {W : Type 0} (g : Ghosts W) (bs : List ℕ) where
       }
 
   -- after the last link
-  pub ended : (c a : Cursor) (r : Result (Unit {0}) Fault) (total : ℕ) → Passing g bs (links_in bs) c total
+  pub ended : {c a : Cursor} {r : Result (Unit {0}) Fault} {total : ℕ} → Passing g bs (links_in bs) c total
       → Took c part.End 0 (check (leb (length c.bytes.now) c.at) TrailingBytes accepted) r a (λ _. c.at ≡ length c.bytes.now)
       → Reads g bs (through (link_fields g bs) (links_in bs) ++ (end ∷ [])) r a (length bs) (λ _. link_place g bs (links_in bs) ≡ length bs)
   unfolding fault_of
-  ended c a (Ok x) total was t =
+  ended {c = c} {a = a} {r = Ok x} was t =
       let p = link_place g bs (links_in bs) in
       let v = at_place (λ y q. check (leb (length y) q) TrailingBytes accepted) (λ y q _. q ≡ length y) part.End 0 (Ok x) c a bs p part.End was.stands refl t in
       record {
         taken = (All-append (λ f. fault_of g bs f ≡ None) (through (link_fields g bs) (links_in bs)) (end ∷ []) was.clear (v.0.0, tt), v.0.1);
         moved = subst (λ n. Stands bs n a) (add-zero p ∙ v.0.1) v.1;
       }
-  ended c a (Err e) total was t =
+  ended {c = c} {a = a} {r = Err e} was t =
       let p = link_place g bs (links_in bs) in
       let v = at_place (λ y q. check (leb (length y) q) TrailingBytes accepted) (λ y q _. q ≡ length y) part.End 0 (Err e) c a bs p part.End was.stands refl t in
       record {

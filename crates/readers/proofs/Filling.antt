@@ -49,15 +49,15 @@ module _ {W : Type 0} (g : Ghosts W) (bs : List ℕ) where
       (λ l. let s : k ≡ n = omega arith in rw s (all_right (λ x. fault_of g bs x ≡ None) (through f n) (f n) h))
       (cases_lt k n)
 
-  module _ (k : ℕ) (c a : Cursor) (total : ℕ) (before : Model W) (p : Plan W g) (l : Link W) (was : Filling g bs k c total before p) (t : Reads g bs (link_fields g bs k) (Ok l) a (link_place g bs (k + 1)) (Linked g bs k)) where
+  module _ {k : ℕ} {c a : Cursor} {total : ℕ} {before : Model W} {p : Plan W g} {l : Link W} (was : Filling g bs k c total before p) (t : Reads g bs (link_fields g bs k) (Ok l) a (link_place g bs (k + 1)) (Linked g bs k)) where
     pub can_join : length before.codes ≡ units_in bs → Joins g (length (model_of p).codes) l
     can_join n = subst (λ x. Joins g x l) (sym (ap length was.codes ∙ n)) t.taken.1.joins
 
     pub has_room : total_of g (model_of p).links + amount_of g l.weight ≤ most_total
     has_room = let h = t.taken.1.limited in let s = was.sums in let e = was.sum in omega arith
 
-    pub filling_more : (q : Plan W g) (amount : ℕ) → model_of q ≡ linked l (model_of p) → amount ≡ amount_of g l.weight → Filling g bs (k + 1) a (total + amount) before q
-    filling_more q amount e is =
+    pub filling_more : (q : Plan W g) {amount : ℕ} → model_of q ≡ linked l (model_of p) → amount ≡ amount_of g l.weight → Filling g bs (k + 1) a (total + amount) before q
+    filling_more q {amount} e is =
         let told = t.taken.1 in
         let ls = (model_of p).links in
         let s = link_size g in

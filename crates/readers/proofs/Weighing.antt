@@ -34,20 +34,20 @@ fours_same f h zero e = refl
 fours_same f h (suc n) e = ap (λ xs. xs ++ four (f n)) (fours_same f h n (λ i l. e i (omega arith))) ∙ ap (λ x. fours h n ++ four x) (e n (omega arith))
 
 module _ {W : Type 0} (g : Ghosts W) (bs : List ℕ) (k : ℕ) where
-  pub number_read : (b a : Cursor) (i : ℕ) (r : Result ℕ Fault) → Stands bs (number_place g bs k i) b → b.part ≡ part.Link k
+  pub number_read : {b a : Cursor} (i : ℕ) {r : Result ℕ Fault} → Stands bs (number_place g bs k i) b → b.part ≡ part.Link k
       → Took b b.part 4 accepted r a (λ n. (n ≡ four_at b.bytes.now b.at) × (bytes_at b.bytes.now b.at 4 ≡ four n))
       → One g bs (number k i) (number_place g bs k (i + 1)) r a (λ n. (n ≡ four_at bs (number_place g bs k i)) × (bytes_at bs (number_place g bs k i) 4 ≡ four n))
   unfolding fault_of
-  number_read b a i r s w t =
+  number_read {b} {a} i {r} s w t =
       let Q : ℕ → Type 0 = λ n. (n ≡ four_at bs (number_place g bs k i)) × (bytes_at bs (number_place g bs k i) 4 ≡ four n) in
       let v = at_place (λ x q. accepted) (λ x q n. (n ≡ four_at x q) × (bytes_at x q 4 ≡ four n)) (part.Link k) 4 r b a bs (number_place g bs k i) b.part s w t in
       let next : number_place g bs k i + 4 ≡ number_place g bs k (i + 1) = omega arith in
       subst (λ n. One g bs (number k i) n r a Q) next v
 
-  pub numbering_more : (i : ℕ) (c a : Cursor) (parts : List ℕ) (x : ℕ) → i < length parts → Numbering g bs k i c parts
+  pub numbering_more : {i : ℕ} {c a : Cursor} {parts : List ℕ} {x : ℕ} → i < length parts → Numbering g bs k i c parts
       → fault_of g bs (number k i) ≡ None → x ≡ four_at bs (number_place g bs k i) → bytes_at bs (number_place g bs k i) 4 ≡ four x → Stands bs (number_place g bs k (i + 1)) a → a.part ≡ part.Link k
       → Numbering g bs k (i + 1) a (set parts i x)
-  numbering_more i c a parts x room was none is piece at w =
+  numbering_more {i} {c} {a} {parts} {x} room was none is piece at w =
       let f : ℕ → ℕ = λ j. four_at bs (number_place g bs k j) in
       let size : 4 * (i + 1) ≡ 4 * i + 4 = omega arith in
       let here : number_place g bs k 0 + 4 * i ≡ number_place g bs k i = omega arith in

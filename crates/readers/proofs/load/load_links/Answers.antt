@@ -1,5 +1,4 @@
 use Rattle.std.proofs.Common.{◌<◌, arith}
-use Rattle.plans.specs.Model.{model_of}
 use Rattle.sheets.specs.Fields.{link_fields, links_in}
 use Rattle.readers.proofs.Exits.{never_refused}
 use Rattle.readers.proofs.Filling.{filling_more, can_join, has_room, clear_at}
@@ -21,14 +20,12 @@ load_link-requires g c =
     let w = g.W.Weight in
     let bs = c.args.cursor.now.bytes.now in
     let k = c.loop-k.k in
-    let l = c.unwrap-link.result in
-    let a = c.read_link.new.cursor in
     let was = c.loop-k.invariant in
     let v = link_here w bs k was.stands c.requires.units was.sum (rw c.unwrap-link.ensures at c.read_link.ensures.reads) in
     record {
-      joins = can_join w bs k c.loop-k.cursor a c.loop-k.total (model_of c.args.plan.now) c.loop-k.plan l c.loop-k.invariant v c.requires.codes;
+      joins = can_join w bs was v c.requires.codes;
       room = omega (arith, c.loop-k.invariant.count, c.requires.short);
-      limit = has_room w bs k c.loop-k.cursor a c.loop-k.total (model_of c.args.plan.now) c.loop-k.plan l c.loop-k.invariant v;
+      limit = has_room w bs was v;
     }
 
 pub loop-k-preserved : goal.loop-k-preserved
@@ -36,8 +33,6 @@ loop-k-preserved g c =
     let w = g.W.Weight in
     let bs = c.args.cursor.now.bytes.now in
     let k = c.loop-k.k in
-    let l = c.unwrap-link.result in
-    let a = c.read_link.new.cursor in
     let was = c.loop-k.invariant in
     let v = link_here w bs k was.stands c.requires.units was.sum (rw c.unwrap-link.ensures at c.read_link.ensures.reads) in
-    filling_more w bs k c.loop-k.cursor a c.loop-k.total (model_of c.args.plan.now) c.loop-k.plan l c.loop-k.invariant v c.load_link.new.plan c.amount-total.result c.load_link.ensures c.amount-total.ensures
+    filling_more w bs was v c.load_link.new.plan c.load_link.ensures c.amount-total.ensures

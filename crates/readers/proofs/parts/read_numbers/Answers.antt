@@ -1,4 +1,4 @@
-use Rattle.std.proofs.Common.{◌<◌, [], ◌∷◌, length, Ok, Err, ◌∙◌, arith}
+use Rattle.std.proofs.Common.{◌<◌, [], ◌∷◌, length, ◌∙◌, arith}
 use Rattle.sheets.specs.Fields.{number}
 use Rattle.sheets.proofs.Firsts.{fault_at_lem, in_one}
 use Rattle.readers.proofs.Exits.{broke}
@@ -12,12 +12,10 @@ loop-part-preserved g c = (
       let wt = g.W.Weight in
       let bs = c.args.cursor.now.bytes.now in
       let i = c.loop-part.part-index in
-      let a = c.four_bytes.new.self in
-      let x = c.in_ok-part.field-0 in
       let was = c.loop-part.invariant.1 k w at in
-      let t = number_read wt bs k c.loop-part.cursor a i (Ok x) was.stands was.within c.in_ok-part.ensures in
+      let t = number_read wt bs k i was.stands was.within c.in_ok-part.ensures in
       let room : i < length c.loop-part.part-items = omega (arith, c.loop-part.auto.part-items) in
-      numbering_more wt bs k i c.loop-part.cursor a c.loop-part.part-items x room was t.0.0 t.0.1.0 t.0.1.1 t.1 t.2,
+      numbering_more wt bs k room was t.0.0 t.0.1.0 t.0.1.1 t.1 t.2,
 )
 
 pub returns-in_err-part-clause-reads : goal.returns-in_err-part-clause-reads
@@ -26,10 +24,9 @@ returns-in_err-part-clause-reads g c = λ k w at.
     let bs = c.args.cursor.now.bytes.now in
     let i = c.loop-part.part-index in
     let n = length c.args.parts.now in
-    let a = c.four_bytes.new.self in
     let d = c.in_err-part.field-0.0 in
     let was = c.loop-part.invariant.1 k w at in
-    let t = number_read wt bs k c.loop-part.cursor a i (Err d) was.stands was.within c.in_err-part.ensures in
+    let t = number_read wt bs k i was.stands was.within c.in_err-part.ensures in
     let lt : i < n = omega arith in
     broke c.from_residual.ensures.1
     (fault_at_lem wt bs (λ j. number k j ∷ []) n i d lt was.clear (in_one wt bs (number k i) d t.0))

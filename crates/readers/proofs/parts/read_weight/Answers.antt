@@ -14,7 +14,6 @@ pub returns-in_err-read_numbers-clause-reads : goal.returns-in_err-read_numbers-
 returns-in_err-read_numbers-clause-reads g c = λ k w at total.
     let wt = g.W.Weight in
     let bs = c.args.cursor.now.bytes.now in
-    let a = c.read_numbers.new.cursor in
     let d = c.in_err-read_numbers.field-0.0 in
     let count = counted c.part_count.result wt.arity c.part_count.ensures g.met.W.Weight.exact.few in
     let n = rw count at (c.in_err-read_numbers.ensures.reads k w at) in

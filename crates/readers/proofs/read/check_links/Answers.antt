@@ -11,18 +11,15 @@ loop-k-preserved g c =
     let w = g.W.Weight in
     let bs = c.args.cursor.now.bytes.now in
     let k = c.loop-k.k in
-    let a = c.read_link.new.cursor in
-    let l = c.in_ok-link.link in
     let was = c.loop-k.invariant in
     let v = link_here w bs k was.stands c.requires.units was.sum c.in_ok-link.ensures.reads in
-    passing_more w bs k c.loop-k.cursor a c.loop-k.total c.amount-total.result l c.loop-k.invariant v c.amount-total.ensures
+    passing_more w bs was v c.amount-total.ensures
 
 pub returns-in_err-link : goal.returns-in_err-link
 returns-in_err-link g c =
     let w = g.W.Weight in
     let bs = c.args.cursor.now.bytes.now in
     let k = c.loop-k.k in
-    let a = c.read_link.new.cursor in
     let d = c.in_err-link.field-0.0 in
     let was = c.loop-k.invariant in
     let v = link_here w bs k was.stands c.requires.units was.sum c.in_err-link.ensures.reads in
@@ -36,4 +33,4 @@ returns g c =
     let w = g.W.Weight in
     let bs = c.args.cursor.now.bytes.now in
     let e : c.loop-k.k ≡ links_in bs = omega (arith, c.requires.links) in
-    ended w bs c.loop-k.cursor c.end.new.self c.end.result c.loop-k.total (rw e at c.loop-k.invariant) c.end.ensures
+    ended w bs (rw e at c.loop-k.invariant) c.end.ensures

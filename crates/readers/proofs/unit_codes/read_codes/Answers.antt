@@ -1,4 +1,4 @@
-use Rattle.std.proofs.Common.{◌<◌, [], ◌∷◌, length, take, Ok, Err, arith}
+use Rattle.std.proofs.Common.{◌<◌, [], ◌∷◌, length, take, arith}
 use Rattle.std.proofs.lemmas.List.{length-take-le}
 use Rattle.sheets.specs.Fields.{code, units_in}
 use Rattle.sheets.proofs.Firsts.{fault_at_lem, in_one}
@@ -12,10 +12,9 @@ loop-k-preserved g c =
     let bs = c.args.cursor.now.bytes.now in
     let k = c.loop-k.k in
     let us = c.loop-k.units in
-    let a = c.read_code.new.cursor in
-    let t = code_read w bs c.loop-k.cursor a k c.args.head.issue (take k us) (Ok c.in_ok-code.code) c.loop-k.invariant.stands c.requires.issue (length-take-le k us (omega arith)) c.loop-k.invariant.texts c.in_ok-code.ensures in
+    let t = code_read w bs k (take k us) c.loop-k.invariant.stands c.requires.issue (length-take-le k us (omega arith)) c.loop-k.invariant.texts c.in_ok-code.ensures in
     let room : k < length us = omega arith in
-    coding_more w bs k c.loop-k.cursor a us c.in_ok-code.code room c.loop-k.invariant t.0.0 t.0.1 t.1
+    coding_more w bs c.in_ok-code.code room c.loop-k.invariant t.0.0 t.0.1 t.1
 
 pub returns-in_err-code : goal.returns-in_err-code
 returns-in_err-code g c =
@@ -23,9 +22,8 @@ returns-in_err-code g c =
     let bs = c.args.cursor.now.bytes.now in
     let k = c.loop-k.k in
     let us = c.loop-k.units in
-    let a = c.read_code.new.cursor in
     let d = c.in_err-code.field-0.0 in
-    let t = code_read w bs c.loop-k.cursor a k c.args.head.issue (take k us) (Err d) c.loop-k.invariant.stands c.requires.issue (length-take-le k us (omega arith)) c.loop-k.invariant.texts c.in_err-code.ensures in
+    let t = code_read w bs k (take k us) c.loop-k.invariant.stands c.requires.issue (length-take-le k us (omega arith)) c.loop-k.invariant.texts c.in_err-code.ensures in
     let lt : k < units_in bs = omega (arith, c.requires.count) in
     broke c.from_residual.ensures.1
     (fault_at_lem w bs (λ j. code j ∷ []) (units_in bs) k d lt c.loop-k.invariant.clear (in_one w bs (code k) d t.0))
