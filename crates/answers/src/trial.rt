@@ -40,7 +40,7 @@ fn solve_without<W: Weight, Q: PriorityQueue<Weight = W>>(
     let plan = filing.plan();
     let n = plan.unit_count();
     let links = plan.links();
-    // no heap, as for an answer without a trial
+    // No heap: a mark for as many links as there can be, lent beside the links, where one of them is put out and back.
     let mut in_service = [0; LINKS];
     copy_marks(links, &mut in_service);
     fill_without(&mut Table::over(table, n), links, &mut in_service, link);
