@@ -7,9 +7,10 @@ use Rattle.queues.specs.Keys.{Becomes}
 use Rattle.heaps.specs.declared.entry.HeapEntry.{HeapEntry}
 use Rattle.heaps.specs.Tree.{Swapped}
 use Rattle.heaps.specs.Heaped.{key_under, Here, Agrees}
+use Rattle.queues.proofs.Looking.{clash}
 use Rattle.heaps.proofs.Order.{one}
 use Rattle.heaps.proofs.Pigeons.{pigeons}
-use Rattle.heaps.proofs.Tables.{Spot, spot, clash, key_in, key_past, key_becomes}
+use Rattle.heaps.proofs.Tables.{Spot, spot, key_in, key_past, key_becomes}
 
 -- the table after a write
 abbrev pub Sends : {W : Type 0} → (ℕ → ℕ) → (ℕ → ℕ) → HeapEntry W → ℕ → Type 0

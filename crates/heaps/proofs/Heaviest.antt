@@ -7,8 +7,9 @@ use Rattle.heaps.specs.Tree.{InOrder}
 use Rattle.heaps.specs.Entries.{before}
 use Rattle.heaps.specs.Heaped.{key_under, Agrees, Lowest}
 use Rattle.heaps.proofs.Ranks.{entry_ranks, before_le, before_lowest}
+use Rattle.queues.proofs.Looking.{clash}
 use Rattle.heaps.proofs.Order.{one, top_first}
-use Rattle.heaps.proofs.Tables.{Spot, spot, key_in, clash}
+use Rattle.heaps.proofs.Tables.{Spot, spot, key_in}
 use Rattle.heaps.proofs.Changes.{agrees_at}
 
 module _ {W : Type 0} (le : W → W → Bool) (laws : Ordered le) (at : ℕ → Option (HeapEntry W)) (place : ℕ → ℕ) (n : ℕ) (agrees : Agrees at place n) (order : InOrder (before le) at n) (some : 0 < n) (e : HeapEntry W) (top : at 0 ≡ Some e) where

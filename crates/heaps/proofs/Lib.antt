@@ -1,4 +1,3 @@
-pub mod Lists
 pub mod Ranks
 pub mod Order
 pub mod Pigeons

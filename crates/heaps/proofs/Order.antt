@@ -14,12 +14,6 @@ pub parent_of : (i : ℕ) → 0 < i → Child ((i - 1) / 2) i
 parent_of i h = (omega arith, omega arith)
 
 module _ {X : Type 0} (first : X → X → Bool) (ranks : Ranked first) (at : ℕ → Option X) (n : ℕ) where
-  pub rise_end : (i : ℕ) → Rising first at n i → ((p : ℕ) → Child p i → Below first at p i) → InOrder first at n
-  rise_end i r last p c child lt = ⊎_elim
-      (λ (e : c ≡ i). rw e (last p (rw e at child)))
-      (λ (ne : c ≡ i → ⊥). r.others p c child lt ne)
-      (cases_eq c i)
-
   pub sink_end : (i : ℕ) → Sinking first at n i → ((c : ℕ) → Child i c → c < n → Below first at i c) → InOrder first at n
   sink_end i r last p c child lt = ⊎_elim
       (λ (e : p ≡ i). rw e (last c (rw e at child) lt))

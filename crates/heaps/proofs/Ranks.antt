@@ -1,17 +1,15 @@
 -- The order of entries, heavier first and then the lower group, is one: what need not come before what need not come before a third need not come before that.
 use Rattle.std.proofs.Common.{◌≡◌, ℕ, ◌+◌, ◌<◌, ◌≤◌, Bool, true, false, cond, ltb, refl, ⊎_elim, arith}
-use Rattle.std.proofs.lemmas.Bool.{ltb-true, ltb-false, le-ltb, both_ways, cases_Bool}
+use Rattle.std.proofs.lemmas.Bool.{ltb-true, ltb-false, le-ltb, cases_Bool}
 use Rattle.weights.specs.Laws.{Laws, limit}
 use Rattle.queues.proofs.Orders.{Ordered}
+use Rattle.queues.proofs.Looking.{true_or}
 use Rattle.heaps.specs.declared.entry.HeapEntry.{HeapEntry}
 use Rattle.heaps.specs.Entries.{before}
 
 pub record Ranked {X : Type 0} (first : X → X → Bool) : Type 0 where
   pub either : (a b : X) → first a b ≡ true → first b a ≡ false
   pub chain : (a b c : X) → first a b ≡ false → first b c ≡ false → first a c ≡ false
-
-true_or : {P : Type 0} {f : Bool} → f ≡ true → f ≡ false → P
-true_or {P} {f} a b = absurd (both_ways f b a)
 
 -- nothing comes before itself
 pub first_self : {X : Type 0} {first : X → X → Bool} → Ranked first → (a : X) → first a a ≡ false

@@ -6,10 +6,8 @@ use Rattle.queues.specs.Keys.{Unchanged, Becomes}
 use Rattle.heaps.specs.declared.entry.HeapEntry.{HeapEntry}
 use Rattle.heaps.specs.Tree.{Swapped}
 use Rattle.heaps.specs.Heaped.{key_for, key_under, Agrees}
+use Rattle.queues.proofs.Looking.{clash}
 use Rattle.heaps.proofs.Order.{one}
-
-pub clash : {W P : Type 0} {o : Option W} {v : W} → o ≡ Some v → o ≡ None → P
-clash is e = let z : ◌≡◌ {A = ℕ} 0 1 = cc in absurd (omega arith)
 
 -- the place of a waiting group, with its entry
 pub record Spot {W : Type 0} (at : ℕ → Option (HeapEntry W)) (n g : ℕ) : Type 0 where

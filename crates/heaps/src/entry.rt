@@ -1,6 +1,5 @@
 // One entry of a heap, and which of two comes first.
-ghost use Rattle.std.specs.Prelude.{◌≡◌, ◌<◌, length, Some};
-ghost use Rattle.std.specs.List.{slice_get};
+ghost use Rattle.std.specs.Prelude.{◌≡◌};
 ghost use Rattle.heaps.specs.Entries.{before as ahead};
 ghost use Rattle.queues.specs.Keys.{no_heavier};
 
@@ -25,24 +24,10 @@ impl<W: Weight> HeapEntry<W> {
     }
 }
 
-// The entry at a place of the lent memory.
-pub(crate) fn read<W: Weight>(entries: &[HeapEntry<W>], at: usize) -> HeapEntry<W>
-    requires { at < length entries.now }
-    ensures { slice_get entries.now at ≡ Some result }
-{
-    entries[at]
-}
-
 // Whether an entry has to come before another: the heavier one first, and of equally heavy ones that
 // of the lower group.
 pub(crate) fn before<W: Weight>(a: HeapEntry<W>, b: HeapEntry<W>) -> bool
     ensures { result ≡ ahead (no_heavier W.Weight) a b }
 {
-    if !a.key.at_most(b.key) {
-        return true;
-    }
-    if !b.key.at_most(a.key) {
-        return false;
-    }
-    a.group < b.group
+    !a.key.at_most(b.key) || (b.key.at_most(a.key) && a.group < b.group)
 }

@@ -6,7 +6,7 @@ ghost use Rattle.heaps.specs.Tree.{Rising, Sinking, Swapped, Eldest};
 ghost use Rattle.heaps.specs.Entries.{before as ahead};
 ghost use Rattle.heaps.specs.Heaped.{placed, standing, heap_key, key_within, Kept, Heaped, Finds, Top};
 
-use crate::entry::{HeapEntry, before, read};
+use crate::entry::{HeapEntry, before};
 use queues::queue::{GROUPS, PriorityQueue};
 use refusals::Refusal;
 use refusals::memory::enough;
@@ -50,7 +50,7 @@ impl<'a, W: Weight> HeapQueue<'a, W> {
         requires { at < length self.now.entries.now }
         ensures { standing self.now at ≡ Some result }
     {
-        read(self.entries, at)
+        self.entries[at]
     }
 
     // The place of a group's entry, where the group waits.
@@ -58,18 +58,8 @@ impl<'a, W: Weight> HeapQueue<'a, W> {
         requires { Kept self.now }
         ensures { Finds self.now group result }
     {
-        if group >= GROUPS {
-            return None;
-        }
-        let at = self.places[group];
-        if at >= self.count {
-            return None;
-        }
-        let entry = self.entry(at);
-        if entry.group != group {
-            return None;
-        }
-        Some(at)
+        let at = *self.places.get(group)?;
+        (at < self.count && self.entry(at).group == group).then_some(at)
     }
 
     // Whether the entry at one place has to come before that at another.
@@ -117,10 +107,7 @@ impl<'a, W: Weight> HeapQueue<'a, W> {
         requires { Heaped (no_heavier W.Weight) self.now }
         ensures { Top (no_heavier W.Weight) self.now result }
     {
-        if self.count == 0 {
-            return None;
-        }
-        Some(self.entry(0))
+        self.entries[..self.count].first().copied()
     }
 
     // Adds the entry of a group that does not wait.
@@ -215,10 +202,7 @@ impl<'a, W: Weight> HeapQueue<'a, W> {
             return None;
         }
         let right = left + 1;
-        if right >= self.count {
-            return Some(left);
-        }
-        if self.is_before(right, left) {
+        if right < self.count && self.is_before(right, left) {
             return Some(right);
         }
         Some(left)
@@ -244,7 +228,7 @@ impl<'a, W: Weight> PriorityQueue for HeapQueue<'a, W> {
         if group >= GROUPS {
             return Err(Refusal::NoSuchUnit);
         }
-        if let Some(_) = self.find(group) {
+        if self.find(group).is_some() {
             return Err(Refusal::AlreadyWaiting);
         }
         self.push(HeapEntry { group, key: weight });
@@ -252,9 +236,7 @@ impl<'a, W: Weight> PriorityQueue for HeapQueue<'a, W> {
     }
 
     fn raise(&mut self, group: usize, by: W) -> Result<W, Refusal> {
-        let Some(at) = self.find(group) else {
-            return Err(Refusal::NotWaiting);
-        };
+        let at = self.find(group).ok_or(Refusal::NotWaiting)?;
         let old = self.entry(at);
         let key = old.key.sum(by)?;
         self.replace(at, HeapEntry { group, key });
@@ -262,9 +244,7 @@ impl<'a, W: Weight> PriorityQueue for HeapQueue<'a, W> {
     }
 
     fn take(&mut self) -> Option<(usize, W)> {
-        let Some(top) = self.top() else {
-            return None;
-        };
+        let top = self.top()?;
         self.pop();
         Some((top.group, top.key))
     }
