@@ -9,14 +9,15 @@ use Rattle.cuts.specs.Links.{Link}
 use Rattle.cuts.specs.Groups.{joint}
 use Rattle.cuts.specs.Scans.{has, key, raised, finds}
 use Rattle.cuts.proofs.Facts.{key_more}
+use Rattle.cuts.proofs.Names.{stands_less}
 use Rattle.refusals.specs.declared.Refusal.{Refusal}
 use Rattle.queues.specs.Keys.{Raised}
 use Rattle.tables.specs.Meaning.{at}
 use Rattle.scans.specs.declared.found.Found.{Found}
 use Rattle.scans.specs.Scanned.{Notes}
-use Rattle.scans.specs.Waits.{Above, Waits, comes_to, rest, Turn}
+use Rattle.scans.specs.Waits.{Above, Waits, comes_to}
 use Rattle.scans.proofs.Waiting.{waits_here, waits_some, waits_change, waits_same}
-use Rattle.scans.proofs.Turns.{rest_stands, rest_apart, mixed, mixed_old, mixed_new, mixed_apart, mixed_same, finds_not, finds_one, gone_not, light_not, short_not, reached_is, raise_fits, unraised}
+use Rattle.scans.proofs.Turns.{Keyed, rest, Turn, rest_stands, rest_apart, mixed, mixed_old, mixed_new, mixed_apart, mixed_same, finds_not, finds_one, gone_not, light_not, short_not, reached_is, raise_fits, unraised}
 
 -- the groups below w are raised, and the pairs found with them are noted after those noted first
 pub record Raising {W : Type 0} (m : Ghosts W) (n : ℕ) (ls : List (Link m.Value)) (es : List Entry) (taken : List ℕ) (v : ℕ) (bound : m.Value) (first : Found) (keys : ℕ → Option W) (f : Found) (w : ℕ) : Type 0 where
@@ -103,5 +104,8 @@ module _ {W : Type 0} {m : Ghosts W} {n : ℕ} {ls : List (Link m.Value)} {es : 
 
   -- every group is raised
   module _ {bound : m.Value} {first f : Found} {keys : ℕ → Option W} {w : ℕ} (end : w ≡ n) (raising : Raising m n ls es taken v bound first keys f w) where
+    pub keyed_every : Keyed m n ls es (v ∷ taken) keys
+    keyed_every = waits_same raising.waits (λ x. refl) (λ x o. let l = stands_less n es x (rest_stands n es (v ∷ taken) x o).0 in mixed_new (kind_of m) n ls es v taken w x (omega arith))
+
     pub notes_every : (before : List (ℕ × ℕ)) → Notes n before first → Notes n (before ++ finds (kind_of m) n ls es bound v taken n) f
     notes_every before h = subst (λ k. Notes n (before ++ finds (kind_of m) n ls es bound v taken k) f) end (raising.notes before h)

@@ -15,9 +15,9 @@ use Rattle.tables.specs.declared.groups.Groups.{Groups}
 use Rattle.tables.specs.Meaning.{Explains, Tracks}
 use Rattle.scans.specs.declared.found.Found.{Found}
 use Rattle.scans.specs.Scanned.{Notes}
-use Rattle.scans.specs.Waits.{Waits, Marks, present, rest, Keyed, Turn}
+use Rattle.scans.specs.Waits.{Waits, Marks, present}
 use Rattle.scans.proofs.Waiting.{waits_here, waits_some, waits_change, waits_same, mark, mark_same}
-use Rattle.scans.proofs.Turns.{rest_stands}
+use Rattle.scans.proofs.Turns.{Keyed, rest, Turn, rest_stands}
 
 -- some groups were taken, each a heaviest; the others wait with their keys, and the pairs found are noted
 pub record Taking {W : Type 0} (m : Ghosts W) (n : ℕ) (ls : List (Link m.Value)) (es : List Entry) (bound : m.Value) (keys : ℕ → Option W) (marks : List Bool) (f : Found) : Type 0 where

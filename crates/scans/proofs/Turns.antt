@@ -1,16 +1,35 @@
 -- The turn of a group that was taken: how keys and found pairs grow as one group after another is raised.
-use Rattle.std.proofs.Common.{◌≡◌, ℕ, ◌+◌, ◌<◌, ◌≤◌, true, false, cond, not, eqb, ltb, List, [], ◌∷◌, ◌++◌, sym, ap, ◌∙◌, ⊎_elim, append_assoc, append-nil, add-one, arith}
+use Rattle.std.proofs.Common.{◌≡◌, ℕ, ◌+◌, ◌<◌, ◌≤◌, Bool, true, false, cond, not, ◌&&◌, eqb, ltb, List, [], ◌∷◌, ◌++◌, Option, sym, ap, ◌∙◌, ⊎_elim, append_assoc, append-nil, add-one, arith}
 use Rattle.std.proofs.lemmas.Bool.Decides.{nat_tests}
 use Rattle.std.proofs.lemmas.Bool.{cases_eq, cond-true, cond-false, and_parts, and_left, and_right, and_from, or_parts, not-true, eqb-false}
+use Rattle.weights.specs.declared.weight.Weight.{Ghosts}
 use Rattle.weights.specs.Laws.{limit}
 use Rattle.cuts.specs.declared.entry.Entry.{Entry}
-use Rattle.cuts.specs.Kinds.{Kind, Lawful, above}
+use Rattle.cuts.specs.Kinds.{Kind, kind_of, Lawful, above}
 use Rattle.cuts.specs.Links.{Link, Sound}
 use Rattle.cuts.specs.Groups.{stands, joint}
-use Rattle.cuts.specs.Scans.{has, key, raised, finds}
+use Rattle.cuts.specs.Scans.{has, key, raised, finds, Order}
 use Rattle.cuts.proofs.Sums.{right}
 use Rattle.cuts.proofs.Facts.{sums_fit, key_more}
-use Rattle.scans.specs.Waits.{rest}
+use Rattle.tables.specs.Meaning.{Holds}
+use Rattle.scans.specs.Waits.{Marks, Waits}
+
+-- the groups that stand and were not taken
+abbrev pub rest : ℕ → List Entry → List ℕ → ℕ → Bool
+rest n es taken x = stands n es x && not (has taken x)
+
+module _ {W : Type 0} (g : Ghosts W) (n : ℕ) (ls : List (Link g.Value)) (es : List Entry) where
+  -- each group that was not taken waits, with what joins it to those taken for its key
+  abbrev pub Keyed : List ℕ → (ℕ → Option W) → Type 0
+  Keyed taken keys = Waits g.value keys (rest n es taken) (key (kind_of g) n ls es taken)
+
+  -- v was taken after others, and the rest still wait with the keys that they had before
+  pub record Turn (taken : List ℕ) (v : ℕ) (table : List W) (keys : ℕ → Option W) (marks : List Bool) : Type 0 where
+    pub sound : Sound (kind_of g) n ls
+    pub holds : Holds g n ls es table
+    pub order : Order (kind_of g) n ls es (v ∷ taken)
+    pub waits : Waits g.value keys (rest n es (v ∷ taken)) (key (kind_of g) n ls es taken)
+    pub marked : Marks marks (rest n es (v ∷ taken))
 
 -- one that is left is not the one taken last, and was left before
 pub rest_stands : (n : ℕ) (es : List Entry) (taken : List ℕ) (x : ℕ) → rest n es taken x ≡ true → (stands n es x ≡ true) × (has taken x ≡ false)

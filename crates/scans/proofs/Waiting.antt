@@ -1,9 +1,8 @@
 -- How who waits, and the marks of it, follow what a queue's calls do.
-use Rattle.std.proofs.Common.{◌≡◌, ℕ, zero, suc, ◌<◌, Bool, true, false, cond, eqb, List, length, get_or, set, replicate, Some, None, Ok, Err, Option, Result, sym, refl, ap, ◌∙◌, ap₂, ⊎_elim}
+use Rattle.std.proofs.Common.{◌≡◌, ℕ, zero, suc, ◌<◌, Bool, true, false, cond, List, length, get_or, set, replicate, Some, None, Ok, Err, Option, Result, sym, refl, ap, ◌∙◌, ap₂, ⊎_elim}
 use Rattle.std.proofs.lemmas.List.{get_or-set_other, get_or-set_same}
 use Rattle.std.proofs.lemmas.Map.{update_here, update_apart}
 use Rattle.std.proofs.lemmas.Bool.{cases_eq, cases_Bool, cond-true, cond-false}
-use Rattle.std.specs.Map.{update}
 use Rattle.refusals.specs.declared.Refusal.{Refusal}
 use Rattle.weights.specs.declared.weight.Weight.{Ghosts}
 use Rattle.queues.specs.Keys.{Becomes, Raised}
@@ -74,15 +73,6 @@ module _ {W : Type 0} {n : ℕ} {keys after : ℕ → Option W} {marks : List Bo
   -- all but g wait as before
   others : (o : Option W) → Becomes keys after g o → (x : ℕ) (k : W) → after x ≡ Some k → (x ≡ g → ⊥) → (x < n) × (get_or marks x false ≡ true)
   others o becomes x k e ne = all.each x k (sym (becomes x ∙ update_apart keys g o x ne) ∙ e)
-
-  -- g waits no more
-  pub marked_taken : Becomes keys after g None → AllMarked n after (set marks g false)
-  marked_taken becomes = record {
-    each = λ x j e. ⊎_elim
-        (λ (is : x ≡ g). let gone = becomes x ∙ ap (λ y. update eqb keys g None y) is ∙ update_here keys g None in cc)
-        (λ (ne : x ≡ g → ⊥). let was = others None becomes x j e ne in (was.0, get_or-set_other marks g x false false ne ∙ was.1))
-        (cases_eq x g);
-  }
 
   -- g is raised, or the sum is refused
   pub marked_raised : (m : Ghosts W) (by : W) (answer : Result W Refusal) → Raised m.value m.plus m.size keys after g by answer → AllMarked n after marks

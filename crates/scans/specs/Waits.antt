@@ -1,14 +1,8 @@
 -- Who waits in the course of a scan, and with which key.
-use Rattle.std.specs.Prelude.{◌≡◌, ℕ, ◌<◌, Bool, true, false, cond, not, ◌&&◌, List, ◌∷◌, Some, None, Ok, Err, Option, Result, nat_lt, slice_index_or}
+use Rattle.std.specs.Prelude.{◌≡◌, ℕ, ◌<◌, Bool, true, false, cond, ◌&&◌, List, Some, None, Ok, Err, Option, Result, nat_lt, slice_index_or}
 use Rattle.refusals.specs.declared.Refusal.{Refusal}
 use Rattle.weights.specs.declared.weight.Weight.{Ghosts}
-use Rattle.cuts.specs.declared.entry.Entry.{Entry}
-use Rattle.cuts.specs.Kinds.{kind_of}
-use Rattle.cuts.specs.Links.{Link, Sound}
-use Rattle.cuts.specs.Groups.{stands}
-use Rattle.cuts.specs.Scans.{has, key, Order}
 use Rattle.tables.specs.declared.groups.Groups.{Groups}
-use Rattle.tables.specs.Meaning.{Holds}
 
 -- the value of a key, where there is one
 abbrev pub worth : {W V : Type 0} → (W → V) → Option W → Option V
@@ -40,20 +34,3 @@ Above g v (Some k) = (g.value k ≡ v) × (g.le v g.zero ≡ false)
 -- the groups that stand, as they are marked among the first n
 abbrev pub present : ℕ → Groups → ℕ → Bool
 present n groups x = nat_lt x n && slice_index_or groups.standing x false
-
--- the groups that stand and were not taken
-abbrev pub rest : ℕ → List Entry → List ℕ → ℕ → Bool
-rest n es taken x = stands n es x && not (has taken x)
-
-module _ {W : Type 0} (g : Ghosts W) (n : ℕ) (ls : List (Link g.Value)) (es : List Entry) where
-  -- each group that was not taken waits, with what joins it to those taken for its key
-  abbrev pub Keyed : List ℕ → (ℕ → Option W) → Type 0
-  Keyed taken keys = Waits g.value keys (rest n es taken) (key (kind_of g) n ls es taken)
-
-  -- v was taken after others, and the rest still wait with the keys that they had before
-  pub record Turn (taken : List ℕ) (v : ℕ) (table : List W) (keys : ℕ → Option W) (marks : List Bool) : Type 0 where
-    pub sound : Sound (kind_of g) n ls
-    pub holds : Holds g n ls es table
-    pub order : Order (kind_of g) n ls es (v ∷ taken)
-    pub waits : Waits g.value keys (rest n es (v ∷ taken)) (key (kind_of g) n ls es taken)
-    pub marked : Marks marks (rest n es (v ∷ taken))

@@ -1,14 +1,13 @@
 // A scan: the groups are taken one by one, heaviest key first, each raising those that still wait.
-// The loops count, since the number of a group is what queue, table and found pairs are given.
-ghost use Rattle.std.specs.Prelude.{◌≡◌, ℕ, ◌<◌, ◌≤◌, false, List, ◌∷◌, ◌++◌, length, Result};
+// The loops count, since the number of a group is what queue, weights and found pairs are given.
+ghost use Rattle.std.specs.Prelude.{◌≡◌, ◌<◌, ◌≤◌, false, List, length, Result};
 ghost use Rattle.cuts.specs.declared.entry.Entry.{Entry};
 ghost use Rattle.cuts.specs.Kinds.{kind_of};
 ghost use Rattle.cuts.specs.Links.{Link};
-ghost use Rattle.cuts.specs.Scans.{finds};
 ghost use Rattle.queues.specs.Keys.{Empty, Raised};
 ghost use Rattle.refusals.specs.declared.Refusal.{Refusal};
-ghost use Rattle.scans.specs.Scanned.{Notes, pairs_of, Scanned};
-ghost use Rattle.scans.specs.Waits.{Above, AllMarked, comes_to, Keyed, Marks, present, Turn, Waits};
+ghost use Rattle.scans.specs.Scanned.{pairs_of, Scanned};
+ghost use Rattle.scans.specs.Waits.{Above, AllMarked, comes_to, Marks, present, Waits};
 ghost use Rattle.tables.specs.Meaning.{ExplainsIn, weight_of};
 
 use crate::found::Found;
@@ -66,39 +65,6 @@ fn raised_to<W: Weight, Q: PriorityQueue<Weight = W>>(
     queue.raise(group, by).is_ok_and(|key| best.at_most(key))
 }
 
-// Raises each group that waits by its joint weight with v, lowest first, and notes the pairs whose key comes to best.
-fn raise_all<W: Weight, Q: PriorityQueue<Weight = W>>(
-    queue: &mut Q,
-    graph: &Graph<W>,
-    waiting: &[bool],
-    v: usize,
-    best: W,
-    found: &mut Found,
-)
-    requires sound { Q.PriorityQueue.sound queue.old }
-    requires room { graph.now.groups.now.units ≤ length waiting.now }
-    requires v { v < graph.now.groups.now.units }
-    requires units { found.old.classes.units ≡ graph.now.groups.now.units }
-    requires marked { AllMarked graph.now.groups.now.units (Q.PriorityQueue.key queue.old) waiting.now }
-    ensures sound { Q.PriorityQueue.sound queue.new }
-    ensures units { found.new.classes.units ≡ graph.now.groups.now.units }
-    ensures marked { AllMarked graph.now.groups.now.units (Q.PriorityQueue.key queue.new) waiting.now }
-    ensures keyed { let n = graph.now.groups.now.units in (ls : List (Link W.Weight.Value)) (es : List Entry) (taken : List ℕ) → Turn W.Weight n ls es taken v graph.now.weights.now (Q.PriorityQueue.key queue.old) waiting.now → Keyed W.Weight n ls es (v ∷ taken) (Q.PriorityQueue.key queue.new) }
-    ensures notes { let n = graph.now.groups.now.units in (ls : List (Link W.Weight.Value)) (es : List Entry) (taken : List ℕ) → Turn W.Weight n ls es taken v graph.now.weights.now (Q.PriorityQueue.key queue.old) waiting.now → (before : List (ℕ × ℕ)) → Notes n before found.old → Notes n (before ++ finds (kind_of W.Weight) n ls es (W.Weight.value best) v taken n) found.new }
-{
-    for w in 0..graph.units() {
-        if !waiting[w] {
-            continue;
-        }
-        let Some(joint) = some_joint(graph, v, w) else {
-            continue;
-        };
-        if raised_to(queue, w, joint, best) {
-            found.note(v, w);
-        }
-    }
-}
-
 // One scan of the groups that stand. It finds the pairs whose key comes to best, and leaves the queue empty.
 pub fn scan<W: Weight, Q: PriorityQueue<Weight = W>>(
     queue: &mut Q,
@@ -118,7 +84,18 @@ pub fn scan<W: Weight, Q: PriorityQueue<Weight = W>>(
     let mut found = Found::none(graph.units());
     while let Some((v, _)) = queue.take() {
         waiting[v] = false;
-        raise_all(queue, graph, &waiting, v, best, &mut found);
+        // each group that waits, lowest first, is raised by its joint weight with v
+        for w in 0..graph.units() {
+            if !waiting[w] {
+                continue;
+            }
+            let Some(joint) = some_joint(graph, v, w) else {
+                continue;
+            };
+            if raised_to(queue, w, joint, best) {
+                found.note(v, w);
+            }
+        }
     }
     found
 }
