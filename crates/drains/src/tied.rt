@@ -116,9 +116,8 @@ fn no_keys<W: Weight>() -> [Option<W>; 64]
 fn preferred<W: Weight>(tie: Tie, key: W, best: Option<(usize, W)>) -> bool
     ensures { result ≡ prefers (no_heavier W.Weight) tie best key }
 {
-    match (tie, best) {
-        (_, None) => true,
-        (Tie::Lowest, Some((_, top))) => !key.at_most(top),
-        (Tie::Highest, Some((_, top))) => top.at_most(key),
-    }
+    best.is_none_or(|(_, top)| match tie {
+        Tie::Lowest => !key.at_most(top),
+        Tie::Highest => top.at_most(key),
+    })
 }
