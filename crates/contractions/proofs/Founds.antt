@@ -75,24 +75,24 @@ abbrev pub looked : {W : Type 0} (g : Ghosts W) → ℕ → List (Link g.Value) 
 looked g n ls found i p = merge_found (kind_of g) n ls (take i (pairs_of found)) p
 
 -- a and b are the groups of the found pair at i
-pub record PairGroups (n : ℕ) (found : Found) (i : ℕ) (groups : Groups) (a b : ℕ) : Type 0 where
+pub record PairGroups (found : Found) (i : ℕ) (groups : Groups) (a b : ℕ) : Type 0 where
   pub within : i < length (pairs_of found)
   pub pair : ℕ × ℕ
   pub pair_is : pair ≡ get_or (pairs_of found) i (0, 0)
-  pub one : pair.0 < n
-  pub other : pair.1 < n
+  pub one : pair.0 < groups.units
+  pub other : pair.1 < groups.units
   pub a_is : a ≡ get_or groups.names pair.0 0
   pub b_is : b ≡ get_or groups.names pair.1 0
 
 -- the memory of the work when i pairs have been looked at, and the groups of the pair at i
 module _ {W : Type 0} (g : Ghosts W) (n : ℕ) (ls : List (Link g.Value)) (found : Found) (i : ℕ) (p : Point)
     (table : List W) (groups : Groups) (progress : Progress W) (marks : List ℕ) (entries : List Entry)
-    (was : At g n ls (looked g n ls found i p) table groups progress marks entries) (a b : ℕ) (are : PairGroups n found i groups a b) where
-  group_of : (x c : ℕ) → x < n → c ≡ get_or groups.names x 0 → c ≡ after (looked g n ls found i p).done x
-  group_of x c l is = is ∙ was.explains.tracks.names x l
+    (was : At g n ls (looked g n ls found i p) table groups progress marks entries) (a b : ℕ) (are : PairGroups found i groups a b) where
+  group_of : (x c : ℕ) → x < groups.units → c ≡ get_or groups.names x 0 → c ≡ after (looked g n ls found i p).done x
+  group_of x c l is = is ∙ was.explains.tracks.names x (rw was.explains.tracks.units at l)
 
-  stood : (x c : ℕ) → x < n → c ≡ get_or groups.names x 0 → stands n (looked g n ls found i p).done c ≡ true
-  stood x c l is = rw (group_of x c l is) (lands n (looked g n ls found i p).done (named n (looked g n ls found i p).done was.explains.joins) x l)
+  stood : (x c : ℕ) → x < groups.units → c ≡ get_or groups.names x 0 → stands n (looked g n ls found i p).done c ≡ true
+  stood x c l is = rw (group_of x c l is) (lands n (looked g n ls found i p).done (named n (looked g n ls found i p).done was.explains.joins) x (rw was.explains.tracks.units at l))
 
   a_at : a ≡ after (looked g n ls found i p).done (get_or (pairs_of found) i (0, 0)).0
   a_at = group_of are.pair.0 a are.one are.a_is ∙ ap (λ (f : ℕ × ℕ). after (looked g n ls found i p).done f.0) are.pair_is

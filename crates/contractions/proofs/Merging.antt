@@ -21,34 +21,33 @@ module _ {W : Type 0} (g : Ghosts W) (n : ℕ) (ls : List (Link g.Value)) (p : P
     (was : At g n ls p table groups progress marks entries)
     (low : stands n p.done e.low ≡ true) (high : stands n p.done e.high ≡ true) (less : e.low < e.high)
     (holds : Holds g n ls (p.done ++ (e ∷ [])) table') (tracks : Tracks n (p.done ++ (e ∷ [])) groups')
-    (room : progress.mergers < length entries)
-    (degree : W) (degree-is : g.value degree ≡ at g table' n e.low e.low) where
+    (room : progress.mergers < length entries) where
   explained : Explains g n ls (p.done ++ (e ∷ [])) table' groups'
   explained = record { sound = was.explains.sound; joins = joins_more n [] p.done e was.explains.joins low high less; holds = holds; tracks = tracks }
 
   stays : stands n (p.done ++ (e ∷ [])) e.low ≡ true
   stays = stands_more n p.done e (named n p.done was.explains.joins) low high less e.low ∙ rw low (grind (arith, nat_tests))
 
-  weighs : g.value degree ≡ weight_of (kind_of g) ls (group (p.done ++ (e ∷ [])) e.low)
-  weighs = degree-is ∙ holds.degrees e.low stays
+  weighs : at g table' n e.low e.low ≡ weight_of (kind_of g) ls (group (p.done ++ (e ∷ [])) e.low)
+  weighs = holds.degrees e.low stays
 
-  compared : (b : Bool) → g.le (g.value progress.best) (g.value degree) ≡ b → cond b p.best (group (p.done ++ (e ∷ [])) e.low) ≡ better (kind_of g) n ls p.best (group (p.done ++ (e ∷ [])) e.low)
+  compared : (b : Bool) → g.le (g.value progress.best) (at g table' n e.low e.low) ≡ b → cond b p.best (group (p.done ++ (e ∷ [])) e.low) ≡ better (kind_of g) n ls p.best (group (p.done ++ (e ∷ [])) e.low)
   compared b h =
       ap (λ t. cond t p.best (group (p.done ++ (e ∷ [])) e.low))
       (sym h ∙ ap (g.le (g.value progress.best)) weighs ∙ ap (λ v. g.le v (weight_of (kind_of g) ls (group (p.done ++ (e ∷ [])) e.low))) was.best)
 
   -- the merged group becomes best, and is marked, exactly where it is strictly lighter
   module _ (progress' : Progress W) (marks' : List ℕ) (mergers : progress'.mergers ≡ progress.mergers + 1) (scans : progress'.scans ≡ progress.scans)
-      (kept : g.le (g.value progress.best) (g.value degree) ≡ true → (progress'.best ≡ progress.best) × (marks' ≡ marks))
-      (lighter : g.le (g.value progress.best) (g.value degree) ≡ false → (progress'.best ≡ degree) × Marks n (λ x. eqb (get_or groups'.names x 0) e.low) marks') where
-    best_at : (b : Bool) → g.le (g.value progress.best) (g.value degree) ≡ b
+      (kept : g.le (g.value progress.best) (at g table' n e.low e.low) ≡ true → (progress'.best ≡ progress.best) × (marks' ≡ marks))
+      (lighter : g.le (g.value progress.best) (at g table' n e.low e.low) ≡ false → (g.value progress'.best ≡ at g table' n e.low e.low) × Marks n (λ x. eqb (get_or groups'.names x 0) e.low) marks') where
+    best_at : (b : Bool) → g.le (g.value progress.best) (at g table' n e.low e.low) ≡ b
         → (g.value progress'.best ≡ weight_of (kind_of g) ls (cond b p.best (group (p.done ++ (e ∷ [])) e.low))) × Marks n (cond b p.best (group (p.done ++ (e ∷ [])) e.low)) marks'
     best_at true h = (ap g.value (kept h).0 ∙ was.best, λ x l. ap (λ ms. get_or ms x 0) (kept h).1 ∙ was.marks_are x l)
-    best_at false h = (ap g.value (lighter h).0 ∙ weighs, λ x l. (lighter h).1 x l ∙ ap (λ k. cond (eqb k e.low) 1 0) (tracks.names x l))
+    best_at false h = ((lighter h).0 ∙ weighs, λ x l. (lighter h).1 x l ∙ ap (λ k. cond (eqb k e.low) 1 0) (tracks.names x l))
 
     pub at_merged : At g n ls (merge (kind_of g) n ls p e) table' groups' progress' marks' (set entries progress.mergers e)
     at_merged =
-        let b = g.le (g.value progress.best) (g.value degree) in
+        let b = g.le (g.value progress.best) (at g table' n e.low e.low) in
         let now = subst (λ S. (g.value progress'.best ≡ weight_of (kind_of g) ls S) × Marks n S marks') (compared b refl) (best_at b refl) in
         record {
           explains = explained;

@@ -5,7 +5,7 @@ ghost use Rattle.contractions.specs.Progress.{Marks};
 
 use tables::groups::Groups;
 
-// 1 for a unit of the group, 0 for another.
+// 1 for a unit of the group, 0 for another: a byte, as marks lie in bytes that are lent.
 fn mark_of(groups: &Groups, unit: usize, group: usize) -> u8
     requires { unit < groups.now.units }
     ensures { result ≡ (if nat_eq (slice_index groups.now.names unit) group then 1 else 0) }
@@ -25,16 +25,16 @@ fn mark_units(groups: &Groups, group: usize, marks: &mut [u8])
 }
 
 // Marks the units of one group.
-pub fn mark_group(groups: &Groups, n: usize, group: usize, marks: &mut [u8])
-    requires units { groups.now.units ≡ n }
-    requires room { n ≤ length marks.old }
-    ensures marked { Marks n (λ x. nat_eq (slice_index groups.now.names x) group) marks.new }
-    ensures rest { drop n marks.new ≡ drop n marks.old }
+pub fn mark_group(groups: &Groups, group: usize, marks: &mut [u8])
+    requires { groups.now.units ≤ length marks.old }
+    ensures marked { Marks groups.now.units (λ x. nat_eq (slice_index groups.now.names x) group) marks.new }
+    ensures rest { drop groups.now.units marks.new ≡ drop groups.now.units marks.old }
 {
-    mark_units(groups, group, &mut marks[0..n]);
+    let units = groups.units();
+    mark_units(groups, group, &mut marks[0..units]);
 }
 
-// The mark of the other side.
+// The mark of the other side: a byte, as marks lie in bytes that are lent.
 fn other_mark(mark: u8) -> u8
     ensures { result ≡ (if nat_eq mark 0 then 1 else 0) }
 {
