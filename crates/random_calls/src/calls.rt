@@ -1,6 +1,7 @@
 // The calls, as they are made on a filing, and what is seen of each.
-ghost use Rattle.std.specs.Prelude.{◌≡◌, ◌≤◌, IfOk, vec_len};
-ghost use Rattle.plans.specs.Sound.{Sound};
+ghost use Rattle.std.specs.Prelude.{◌≡◌, ◌≤◌, IfOk, [], length, vec_len};
+ghost use Rattle.plans.specs.Model.{model_of};
+ghost use Rattle.plans.specs.Sound.{most_links};
 
 use crate::model::{Answered, Lent, NOTHING, Reply, Seen, Trouble, UNTOUCHED};
 use answers::trial::trial;
@@ -8,12 +9,14 @@ use answers::weakest::weakest;
 use cuts::entry::Entry;
 use cuts::ground::Ground;
 use filings::filing::Filing;
+use plans::plan::Link;
 use queues::list::{ListQueue, Slot};
 use queues::queue::GROUPS;
 use refusals::Refusal;
 use samples::wire::{Parts, parts_of};
 use solvers::answer::Answer;
 use std::alloc::{AllocError, Global};
+use std::mem;
 use weights::weight::Weight;
 
 // A call with its arguments.
@@ -24,6 +27,7 @@ pub enum Call {
     Link(usize, usize, Parts),
     Strike(usize),
     Reweigh(usize, Parts),
+    // a byte, since one that is no mark is to be refused
     Mark(usize, u8),
     Weigh(Vec<u8>),
     Weakest(Lent),
@@ -72,8 +76,6 @@ impl<W: Weight> Memory<W> {
     // The weakest division, or that with one link out of service, in this memory.
     fn ask(&mut self, filing: &mut Filing<W>, without: Option<usize>) -> Result<Answer<W>, Refusal>
         requires slots { 64 ≤ vec_len self.old.slots }
-        requires plan { Sound W.Weight filing.old.plan }
-        ensures { Sound W.Weight filing.new.plan }
     {
         let mut queue = ListQueue::over(self.slots.as_mut_slice());
         let marks = self.marks.as_mut_slice();
@@ -117,73 +119,78 @@ impl<W: Weight> Memory<W> {
     }
 }
 
-// Asks in memory of the wanted sizes that is made for it, and hands out that for marks.
-fn asked<W: Weight>(
-    heap: Global,
-    filing: &mut Filing<W>,
-    without: Option<usize>,
-    lent: Lent,
-    marks: &mut Vec<u8>,
-) -> Result<Reply, Trouble>
-    requires { Sound W.Weight filing.old.plan }
-    ensures { Sound W.Weight filing.new.plan }
-{
-    let mut memory = Memory::new(heap, lent)?;
-    let outcome = memory.ask(filing, without);
-    let reply = memory.reply(outcome);
-    *marks = memory.marks;
-    reply
-}
-
 // The library's weight with some parts.
 fn weight_of<W: Weight>(parts: Parts) -> Result<W, Refusal> {
     W::from_parts(&[parts.0, parts.1])
 }
 
-fn made<W: Weight>(
+// A filing on which calls are made, and the memory for marks that the last call was lent.
+#[derive(Drop)]
+pub struct Caller<'a, W: Weight> {
     heap: Global,
-    filing: &mut Filing<W>,
-    call: &Call,
-    marks: &mut Vec<u8>,
-) -> Result<Reply, Trouble>
-    requires { Sound W.Weight filing.old.plan }
-    ensures { Sound W.Weight filing.new.plan }
-{
-    match call {
-        Call::Enter(text) => Ok(Reply::Number(filing.enter(text.as_slice())?)),
-        Call::Recode(unit, text) => {
-            filing.recode(*unit, text.as_slice())?;
-            Ok(Reply::Done)
-        }
-        Call::Link(first, second, parts) => {
-            let weight = weight_of(*parts)?;
-            Ok(Reply::Number(filing.link(*first, *second, weight)?))
-        }
-        Call::Strike(link) => {
-            filing.strike(*link)?;
-            Ok(Reply::Done)
-        }
-        Call::Reweigh(link, parts) => {
-            let weight = weight_of(*parts)?;
-            filing.reweigh(*link, weight)?;
-            Ok(Reply::Done)
-        }
-        Call::Mark(link, mark) => {
-            filing.mark(*link, *mark)?;
-            Ok(Reply::Done)
-        }
-        Call::Weigh(given) => Ok(Reply::Weight(parts_of(filing.weigh(given.as_slice())?))),
-        Call::Weakest(lent) => asked(heap, filing, None, *lent, marks),
-        Call::Trial(link, lent) => asked(heap, filing, Some(*link), *lent, marks),
-    }
+    pub filing: Filing<'a, W>,
+    marks: Vec<u8>,
 }
 
-// Makes a call on a filing.
-pub fn perform<W: Weight>(heap: Global, filing: &mut Filing<W>, call: &Call) -> Seen
-    requires { Sound W.Weight filing.old.plan }
-    ensures { Sound W.Weight filing.new.plan }
-{
-    let mut marks = Vec::new(heap);
-    let reply = made(heap, filing, call, &mut marks);
-    Seen { reply, marks }
+impl<'a, W: Weight> Caller<'a, W> {
+    // A plan with no units.
+    pub fn open(heap: Global, links: &'a mut [Link<W>]) -> Caller<'a, W>
+        requires { most_links ≤ length links.old }
+        ensures { model_of result.filing.plan ≡ record { codes = []; links = [] } }
+    {
+        Caller {
+            heap,
+            filing: Filing::open(links),
+            marks: Vec::new(heap),
+        }
+    }
+
+    // Asks in memory of the wanted sizes that is made for it.
+    fn ask(&mut self, without: Option<usize>, lent: Lent) -> Result<Reply, Trouble> {
+        let mut memory = Memory::new(self.heap, lent)?;
+        let outcome = memory.ask(&mut self.filing, without);
+        let reply = memory.reply(outcome);
+        self.marks = memory.marks;
+        reply
+    }
+
+    fn make(&mut self, call: &Call) -> Result<Reply, Trouble> {
+        match call {
+            Call::Enter(text) => Ok(Reply::Number(self.filing.enter(text.as_slice())?)),
+            Call::Recode(unit, text) => {
+                self.filing.recode(*unit, text.as_slice())?;
+                Ok(Reply::Done)
+            }
+            Call::Link(first, second, parts) => {
+                let weight = weight_of(*parts)?;
+                Ok(Reply::Number(self.filing.link(*first, *second, weight)?))
+            }
+            Call::Strike(link) => {
+                self.filing.strike(*link)?;
+                Ok(Reply::Done)
+            }
+            Call::Reweigh(link, parts) => {
+                let weight = weight_of(*parts)?;
+                self.filing.reweigh(*link, weight)?;
+                Ok(Reply::Done)
+            }
+            Call::Mark(link, mark) => {
+                self.filing.mark(*link, *mark)?;
+                Ok(Reply::Done)
+            }
+            Call::Weigh(marks) => {
+                let weight = self.filing.weigh(marks.as_slice())?;
+                Ok(Reply::Weight(parts_of(weight)))
+            }
+            Call::Weakest(lent) => self.ask(None, *lent),
+            Call::Trial(link, lent) => self.ask(Some(*link), *lent),
+        }
+    }
+
+    // Makes a call.
+    pub fn perform(&mut self, call: &Call) -> Seen {
+        let reply = self.make(call);
+        let marks = mem::replace(&mut self.marks, Vec::new(self.heap));
+        Seen { reply, marks }
+    }
 }

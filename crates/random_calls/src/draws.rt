@@ -1,9 +1,11 @@
 // Calls with pseudo-random arguments: many that are to be accepted, and many with one fault or several.
+ghost use Rattle.std.specs.Prelude.{◌≡◌};
+
 use crate::calls::Call;
 use crate::model::{Lent, Model};
 use samples::coded::code;
 use samples::dice::Dice;
-use samples::wire::Parts;
+use samples::wire::{Parts, WeightKind};
 use std::alloc::{AllocError, Global};
 
 // The three forms of runs.
@@ -16,22 +18,15 @@ pub enum Form {
     Filling,
 }
 
-// What the calls of a run are like.
-#[derive(Clone, Copy)]
-pub struct Kind {
-    // whether weights have two parts
-    pub ranked: bool,
-    pub form: Form,
-    // from how many codes those of the units are taken, so that there are no more units than that
-    pub codes: usize,
-}
-
-// What draws the calls of a run.
+// What draws the calls of runs with weights of one kind.
 #[derive(Drop)]
 pub struct Draws {
     pub heap: Global,
-    pub dice: Dice,
-    pub kind: Kind,
+    dice: Dice,
+    kind: WeightKind,
+    pub form: Form,
+    // from how many codes those of the units are taken, so that there are no more units than that
+    pub codes: usize,
 }
 
 // The ends of a link of a woven plan. A block is two halves, each unit of one linked to each of the other; after the
@@ -80,6 +75,24 @@ fn weave(heap: Global, turn: usize, units: usize) -> Result<Option<Call>, AllocE
 }
 
 impl Draws {
+    // Numbers of its own for each kind.
+    pub fn new(heap: Global, kind: WeightKind) -> Draws
+        ensures kind { result.kind ≡ kind }
+        ensures form { result.form ≡ Form.Short }
+    {
+        let seed = match kind {
+            WeightKind::Plain => 20_000,
+            WeightKind::Ranked => 20_001,
+        };
+        Draws {
+            heap,
+            dice: Dice::new(seed),
+            kind,
+            form: Form::Short,
+            codes: 0,
+        }
+    }
+
     // Makes characters no code: too few, too many, or one that may not stand where it does.
     fn spoil(&mut self, text: &mut Vec<u8>) -> Result<(), AllocError> {
         let odd = b"az/:@[\0\xFF X";
@@ -100,7 +113,7 @@ impl Draws {
 
     // A code, or characters that are none.
     fn text(&mut self) -> Result<Vec<u8>, AllocError> {
-        let mut text = code(self.heap, self.dice.below(self.kind.codes))?;
+        let mut text = code(self.heap, self.dice.below(self.codes))?;
         if self.dice.one_in(5) {
             self.spoil(&mut text)?;
         }
@@ -121,7 +134,7 @@ impl Draws {
 
     // An amount: often small, at times nothing, large, or just within or past one of the limits.
     fn amount(&mut self, total: u64) -> u64 {
-        let filling = self.kind.form == Form::Filling;
+        let filling = self.form == Form::Filling;
         let rest = 1_000_000u64.saturating_sub(total);
         let large = self.dice.below(400_000) as u64;
         match self.dice.below(32) {
@@ -140,7 +153,7 @@ impl Draws {
     // The parts of a weight: for the ranked kind the amount in one part, in the other, or in both.
     fn parts(&mut self, total: u64) -> Parts {
         let whole = u32::try_from(self.amount(total)).unwrap_or(u32::MAX);
-        if !self.kind.ranked {
+        if self.kind == WeightKind::Plain {
             return (whole, 0);
         }
         match self.dice.below(4) {
@@ -234,12 +247,12 @@ impl Draws {
     // The call at a turn of a run. In a run that fills the plan most calls add a unit or a link; in any other one in
     // three asks for the weakest division, so that most edits are followed by one soon.
     pub fn call(&mut self, model: &Model, turn: usize) -> Result<Call, AllocError> {
-        if self.kind.form == Form::Woven {
-            if let Some(call) = weave(self.heap, turn, self.kind.codes)? {
+        if self.form == Form::Woven {
+            if let Some(call) = weave(self.heap, turn, self.codes)? {
                 return Ok(call);
             }
         }
-        let filling = self.kind.form == Form::Filling;
+        let filling = self.form == Form::Filling;
         let units = model.codes.len();
         let links = model.wires.len();
         let choice = self.dice.below(if filling { 80 } else { 26 });

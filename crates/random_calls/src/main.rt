@@ -2,17 +2,13 @@
 // model that is written from docs/RULES.md alone.
 #![tactic(auto)]
 
-ghost use Rattle.plans.specs.Sound.{Sound};
-
-use crate::calls::{Call, perform};
-use crate::compare::{expect, is_same};
-use crate::draws::{Draws, Form, Kind};
+use crate::calls::{Call, Caller};
+use crate::compare::{Outcome, expect, is_same};
+use crate::draws::{Draws, Form};
 use crate::model::{Model, Trouble};
 use anyhow::ensure;
-use filings::filing::Filing;
 use plans::plan::{LINKS, Link};
-use samples::dice::Dice;
-use std::alloc::Global;
+use samples::wire::WeightKind;
 use std::fmt;
 use weights::plain::Plain;
 use weights::ranked::Ranked;
@@ -29,7 +25,8 @@ const SHORT: usize = 300;
 
 const LONG: usize = 1700;
 
-#[derive(Drop)]
+// What the runs come to; the tally of round trips counts trips and refusals, and no calls.
+#[derive(Default, Drop)]
 struct Tally {
     calls: u64,
     deviations: u64,
@@ -41,40 +38,19 @@ impl fmt::Display for Tally {
     }
 }
 
-// Makes one call on the filing and on the model, and names the call if they differ.
-fn step<W: Weight>(
-    rt: &impl Print,
-    heap: Global,
-    filing: &mut Filing<W>,
-    model: &mut Model,
-    call: &Call,
-    tally: &mut Tally,
-) -> anyhow::Result<()>
-    requires { Sound W.Weight filing.old.plan }
-    ensures { Sound W.Weight filing.new.plan }
-{
-    let seen = perform(heap, filing, call);
-    let reply = seen.reply;
-    let expected = expect(heap, model, call, &seen);
-    let none = Err(Trouble::NoMemory);
-    ensure!(reply != none && expected != none, "out of memory");
-    tally.calls = tally.calls.saturating_add(1);
-    let same = is_same(filing, model);
-    if reply == expected && same {
-        return Ok(());
+impl Tally {
+    // Counts a call, and names it if the filing and the model differ.
+    fn note(&mut self, rt: &impl Print, call: &Call, outcome: &Outcome) -> anyhow::Result<()> {
+        self.calls = self.calls.saturating_add(1);
+        if !outcome.is_right() {
+            self.deviations = self.deviations.saturating_add(1);
+            println!(rt; "call {}, {call:?}: {outcome}", self.calls)?;
+        }
+        Ok(())
     }
-    tally.deviations = tally.deviations.saturating_add(1);
-    let number = tally.calls;
-    let plan = if same {
-        "the same plan"
-    } else {
-        "another plan"
-    };
-    println!(rt; "call {number}, {call:?}: {reply:?} where {expected:?} is right, and {plan}")?;
-    Ok(())
 }
 
-// A run of calls, from a plan with no units.
+// A run of calls, from a plan with no units: each is made on a filing and on the model.
 fn run<W: Weight>(
     rt: &impl Print,
     draws: &mut Draws,
@@ -83,52 +59,46 @@ fn run<W: Weight>(
 ) -> anyhow::Result<()> {
     let heap = draws.heap;
     let mut links = vec![in heap; Link::<W>::blank(); LINKS]?;
-    let mut filing = Filing::open(links.as_mut_slice());
+    let mut caller = Caller::open(heap, links.as_mut_slice());
     let mut model = Model::new(heap);
     for turn in 0..calls {
         let call = draws.call(&model, turn)?;
-        step(rt, heap, &mut filing, &mut model, &call, tally)?;
+        let seen = caller.perform(&call);
+        let outcome = Outcome {
+            reply: seen.reply,
+            expected: expect(&mut model, &call, &seen),
+            same: is_same(&caller.filing, &model),
+        };
+        let none = Err(Trouble::NoMemory);
+        ensure!(
+            outcome.reply != none && outcome.expected != none,
+            "out of memory"
+        );
+        tally.note(rt, &call, &outcome)?;
     }
     Ok(())
 }
 
 // All runs of one weight kind.
-fn runs<W: Weight>(
-    rt: &impl Print,
-    heap: Global,
-    ranked: bool,
-    tally: &mut Tally,
-) -> anyhow::Result<()> {
-    let mut draws = Draws {
-        heap,
-        dice: Dice::new(if ranked { 20_001 } else { 20_000 }),
-        kind: Kind {
-            ranked,
-            form: Form::Short,
-            codes: 0,
-        },
-    };
+fn runs<W: Weight>(rt: &impl Print, mut draws: Draws, tally: &mut Tally) -> anyhow::Result<()> {
     for codes in [3, 4, 5, 6, 7, 8, 9, 10] {
-        draws.kind.codes = codes;
+        draws.codes = codes;
         run::<W>(rt, &mut draws, SHORT, tally)?;
     }
-    draws.kind.form = Form::Woven;
+    draws.form = Form::Woven;
     for codes in [6, 8, 12] {
-        draws.kind.codes = codes;
+        draws.codes = codes;
         run::<W>(rt, &mut draws, SHORT, tally)?;
     }
-    draws.kind.form = Form::Filling;
-    draws.kind.codes = 200;
+    draws.form = Form::Filling;
+    draws.codes = 200;
     run::<W>(rt, &mut draws, LONG, tally)
 }
 
 fn main(rt: HostRuntime) -> anyhow::Result<()> {
-    let mut tally = Tally {
-        calls: 0,
-        deviations: 0,
-    };
-    runs::<Plain>(&rt, rt.alloc(), false, &mut tally)?;
-    runs::<Ranked>(&rt, rt.alloc(), true, &mut tally)?;
+    let mut tally = Tally::default();
+    runs::<Plain>(&rt, Draws::new(rt.alloc(), WeightKind::Plain), &mut tally)?;
+    runs::<Ranked>(&rt, Draws::new(rt.alloc(), WeightKind::Ranked), &mut tally)?;
     println!(rt; "{tally}")?;
     Ok(())
 }

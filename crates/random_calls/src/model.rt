@@ -1,11 +1,14 @@
 // A plan as docs/RULES.md describes it, in plain lists, apart from the library: each call is checked, made and answered
 // by itself. A plain weight stands as two parts with the second 0, so that one model serves both kinds.
+ghost use Rattle.std.specs.Prelude.{◌≡◌, ◌+◌, ◌*◌, ◌<◌, ◌≤◌, ◌↔◌, IfOk, IsTrue, OnOk, [], ◌∷◌, ◌++◌, true, if◌then◌else◌, length, min, not, slice_set, vec_len};
+ghost use Rattle.std.specs.List.{remove};
+
 use crate::model::divisions::Network;
 use samples::wire::{Parts, Wire};
 use std::alloc::{AllocError, AllocFailed, Global};
 
-pub mod divisions;
-pub mod workings;
+mod divisions;
+mod workings;
 
 pub const NOTHING: Parts = (0, 0);
 
@@ -61,6 +64,7 @@ pub struct Seen {
 
 #[derive(Drop)]
 pub struct Model {
+    heap: Global,
     pub codes: Vec<Vec<u8>>,
     pub wires: Vec<Wire>,
     // the marks that are kept, if any
@@ -81,7 +85,9 @@ impl<T: Drop> From<AllocFailed<T>> for Trouble {
 
 impl Lent {
     // Just as much as so many units need.
-    pub fn exact(units: usize) -> Lent {
+    pub fn exact(units: usize) -> Lent
+        ensures { result ≡ record { marks = units; entries = units; weights = min (units * units) usize.MAX } }
+    {
         Lent {
             marks: units,
             entries: units,
@@ -90,7 +96,9 @@ impl Lent {
     }
 
     // Whether it is less than so many units need.
-    pub fn is_short(self, units: usize) -> bool {
+    fn is_short(self, units: usize) -> bool
+        ensures { IsTrue (not result) ↔ (units ≤ self.marks) × (units ≤ self.entries) × (min (units * units) usize.MAX ≤ self.weights) }
+    {
         let exact = Lent::exact(units);
         self.marks < exact.marks || self.entries < exact.entries || self.weights < exact.weights
     }
@@ -101,18 +109,27 @@ fn is_code(text: &[u8]) -> bool {
     matches!(text.len(), 6 | 7) && known && matches!(text.first(), Some(b'P' | b'C' | b'B' | b'U'))
 }
 
-pub fn amount(parts: Parts) -> u64 {
+pub fn amount(parts: Parts) -> u64
+    ensures { result ≡ parts.0 + parts.1 }
+{
     u64::from(parts.0) + u64::from(parts.1)
 }
 
 // What a link carries: nothing while it is out of service.
-fn carried(wire: Wire) -> Parts {
+fn carried(wire: Wire) -> Parts
+    ensures { result ≡ (if wire.serves then wire.parts else NOTHING) }
+{
     if wire.serves { wire.parts } else { NOTHING }
 }
 
 impl Model {
-    pub fn new(heap: Global) -> Model {
+    pub fn new(heap: Global) -> Model
+        ensures codes { result.codes.items ≡ [] }
+        ensures wires { result.wires.items ≡ [] }
+        ensures kept { result.kept ≡ None }
+    {
         Model {
+            heap,
             codes: Vec::new(heap),
             wires: Vec::new(heap),
             kept: None,
@@ -137,7 +154,9 @@ impl Model {
 
     // Between two units the weight in service goes from one to another. Kept marks stay weakest where what they cut
     // gets no heavier, or what they leave whole gets no lighter.
-    fn settle(&mut self, ends: (usize, usize), before: Parts, after: Parts) {
+    fn settle(&mut self, ends: (usize, usize), before: Parts, after: Parts)
+        ensures { self.new ≡ record self.old { kept = self.new.kept } }
+    {
         let stays = self.kept.as_ref().is_some_and(|sides| {
             if sides.get(ends.0).copied() == sides.get(ends.1).copied() {
                 before <= after
@@ -150,7 +169,10 @@ impl Model {
         }
     }
 
-    pub fn enter(&mut self, heap: Global, text: &[u8]) -> Result<Reply, Trouble> {
+    pub fn enter(&mut self, text: &[u8]) -> Result<Reply, Trouble>
+        ensures number { IfOk result (λ reply. reply ≡ Reply.Number (vec_len self.old.codes)) }
+        ensures units { OnOk result (vec_len self.new.codes ≡ vec_len self.old.codes + 1) }
+    {
         let number = self.codes.len();
         if !is_code(text) {
             return Err(Trouble::Refused(7));
@@ -161,12 +183,15 @@ impl Model {
         if number >= 64 {
             return Err(Trouble::Refused(6));
         }
-        self.codes.push(text.to_vec(heap)?)?;
+        self.codes.push(text.to_vec(self.heap)?)?;
         self.kept = None;
         Ok(Reply::Number(number))
     }
 
-    pub fn recode(&mut self, heap: Global, unit: usize, text: &[u8]) -> Result<Reply, Trouble> {
+    pub fn recode(&mut self, unit: usize, text: &[u8]) -> Result<Reply, Trouble>
+        ensures done { IfOk result (λ reply. reply ≡ Reply.Done) }
+        ensures unit { OnOk result (unit < vec_len self.old.codes) }
+    {
         if unit >= self.codes.len() {
             return Err(Trouble::Refused(9));
         }
@@ -176,11 +201,14 @@ impl Model {
         if self.bearer(text).is_some_and(|bearer| bearer != unit) {
             return Err(Trouble::Refused(8));
         }
-        self.codes[unit] = text.to_vec(heap)?;
+        self.codes[unit] = text.to_vec(self.heap)?;
         Ok(Reply::Done)
     }
 
-    pub fn link(&mut self, ends: (usize, usize), parts: Parts) -> Result<Reply, Trouble> {
+    pub fn link(&mut self, ends: (usize, usize), parts: Parts) -> Result<Reply, Trouble>
+        ensures number { IfOk result (λ reply. reply ≡ Reply.Number (vec_len self.old.wires)) }
+        ensures links { OnOk result (self.new.wires.items ≡ self.old.wires.items ++ (record { ends = ends; serves = true; parts = parts } ∷ [])) }
+    {
         let units = self.codes.len();
         let number = self.wires.len();
         if ends.0 >= units || ends.1 >= units {
@@ -209,11 +237,16 @@ impl Model {
     }
 
     // A link, if there is one with this number.
-    fn wire(&self, link: usize) -> Result<Wire, Trouble> {
+    fn wire(&self, link: usize) -> Result<Wire, Trouble>
+        ensures { OnOk result (link < vec_len self.now.wires) }
+    {
         self.wires.get(link).copied().ok_or(Trouble::Refused(13))
     }
 
-    pub fn strike(&mut self, link: usize) -> Result<Reply, Trouble> {
+    pub fn strike(&mut self, link: usize) -> Result<Reply, Trouble>
+        ensures done { IfOk result (λ reply. reply ≡ Reply.Done) }
+        ensures links { OnOk result (self.new.wires.items ≡ remove self.old.wires.items link) }
+    {
         if link >= self.wires.len() {
             return Err(Trouble::Refused(13));
         }
@@ -223,14 +256,19 @@ impl Model {
     }
 
     // Puts another link in the place of one.
-    fn change(&mut self, link: usize, old: Wire, new: Wire) {
+    fn change(&mut self, link: usize, old: Wire, new: Wire)
+        ensures { self.new.wires.items ≡ slice_set self.old.wires.items link new }
+    {
         if let Some(wire) = self.wires.get_mut(link) {
             *wire = new;
         }
         self.settle(new.ends, carried(old), carried(new));
     }
 
-    pub fn reweigh(&mut self, link: usize, parts: Parts) -> Result<Reply, Trouble> {
+    pub fn reweigh(&mut self, link: usize, parts: Parts) -> Result<Reply, Trouble>
+        ensures done { IfOk result (λ reply. reply ≡ Reply.Done) }
+        ensures link { OnOk result (link < vec_len self.old.wires) }
+    {
         let old = self.wire(link)?;
         if parts == NOTHING {
             return Err(Trouble::Refused(11));
@@ -242,7 +280,10 @@ impl Model {
         Ok(Reply::Done)
     }
 
-    pub fn mark(&mut self, link: usize, mark: u8) -> Result<Reply, Trouble> {
+    pub fn mark(&mut self, link: usize, mark: u8) -> Result<Reply, Trouble>
+        ensures done { IfOk result (λ reply. reply ≡ Reply.Done) }
+        ensures link { OnOk result (link < vec_len self.old.wires) }
+    {
         let old = self.wire(link)?;
         let serves = match mark {
             0 => false,
@@ -261,7 +302,9 @@ impl Model {
         }
     }
 
-    pub fn weigh(&self, marks: &[u8]) -> Result<Reply, Trouble> {
+    pub fn weigh(&self, marks: &[u8]) -> Result<Reply, Trouble>
+        ensures { OnOk result ((2 ≤ vec_len self.now.codes) × (length marks.now ≡ vec_len self.now.codes)) }
+    {
         let units = self.codes.len();
         if units < 2 {
             return Err(Trouble::Refused(15));

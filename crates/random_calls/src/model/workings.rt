@@ -1,12 +1,15 @@
 // What the model says to weakest and trial. What was seen of the library's call is given, as which of several weakest
 // divisions comes is open.
+ghost use Rattle.std.specs.Prelude.{◌<◌, ◌≤◌, OnOk, length, vec_len};
+
 use crate::model::divisions::Network;
 use crate::model::{Lent, Model, Reply, Seen, Trouble};
-use std::alloc::Global;
 
 impl Model {
     // An accepted weakest keeps its marks; while some are kept, it answers those.
-    pub fn weakest(&mut self, heap: Global, lent: Lent, seen: &Seen) -> Result<Reply, Trouble> {
+    pub fn weakest(&mut self, lent: Lent, seen: &Seen) -> Result<Reply, Trouble>
+        ensures { OnOk result ((2 ≤ vec_len self.old.codes) × (vec_len self.old.codes ≤ vec_len seen.now.marks)) }
+    {
         let units = self.codes.len();
         let marks = seen.marks.as_slice();
         if units < 2 {
@@ -23,12 +26,14 @@ impl Model {
         {
             return Err(Trouble::WrongMarks);
         }
-        self.kept = Some(marks[0..units].to_vec(heap)?);
+        self.kept = Some(marks[0..units].to_vec(self.heap)?);
         expected
     }
 
     // The same with one link out of service; kept marks are neither answered nor touched.
-    pub fn trial(&self, link: usize, lent: Lent, seen: &Seen) -> Result<Reply, Trouble> {
+    pub fn trial(&self, link: usize, lent: Lent, seen: &Seen) -> Result<Reply, Trouble>
+        ensures { OnOk result (link < vec_len self.now.wires) }
+    {
         let units = self.codes.len();
         if link >= self.wires.len() {
             return Err(Trouble::Refused(13));
