@@ -1,7 +1,5 @@
 // What the tests share: filings over memory of their own, lent from the stack, and what is seen of them.
 ghost use Rattle.std.specs.Prelude.{ℕ, ◌≤◌};
-ghost use Rattle.plans.specs.Sound.{Sound};
-ghost use Rattle.weights.specs.contracts.plain.PlainWeight.TheImpl.{ghosts as plainKind};
 
 use crate::example::{CODES, LINKS, SHEET};
 use answers::trial::trial;
@@ -13,7 +11,6 @@ use plans::plan::Link;
 use queues::list::{ListQueue, Slot};
 use queues::queue::PriorityQueue;
 use refusals::Refusal;
-use solvers::answer::Answer;
 use std::process::Abort;
 use std::test::Fail;
 use weights::plain::Plain;
@@ -105,6 +102,7 @@ pub enum Edit {
 }
 
 // One step of a test. Steps are data, not calls, so that a test is one table and each kind of call is proved once.
+// A refusal stands by its number, as the rules give it.
 #[derive(Clone, Copy)]
 pub enum Step {
     // the plan of four units is read and worked out
@@ -137,15 +135,13 @@ pub fn refused<T: Drop>(outcome: Result<T, Refusal>) -> Option<u8> {
     outcome.err().map(|why| why.number())
 }
 
-pub fn plain(conductors: u32) -> Result<Plain, Refusal> {
+fn plain(conductors: u32) -> Result<Plain, Refusal> {
     Plain::from_parts(&[conductors])
 }
 
 // Enters units U10000, U10001 and so on.
 pub fn enter_units(filing: &mut Filing<Plain>, count: u8) -> Result<(), Refusal>
-    requires sound { Sound plainKind filing.old.plan }
-    requires few { count ≤ 100 }
-    ensures { Sound plainKind filing.new.plan }
+    requires { count ≤ 100 }
 {
     for k in 0..count {
         // two digits by hand, so that nothing but a refusal can go wrong
@@ -155,10 +151,7 @@ pub fn enter_units(filing: &mut Filing<Plain>, count: u8) -> Result<(), Refusal>
 }
 
 // Makes each link in turn.
-pub fn join(filing: &mut Filing<Plain>, links: &[(usize, usize, u32)]) -> Result<(), Refusal>
-    requires { Sound plainKind filing.old.plan }
-    ensures { Sound plainKind filing.new.plan }
-{
+pub fn join(filing: &mut Filing<Plain>, links: &[(usize, usize, u32)]) -> Result<(), Refusal> {
     for (first, second, conductors) in links {
         filing.link(*first, *second, plain(*conductors)?)?;
     }
@@ -166,10 +159,7 @@ pub fn join(filing: &mut Filing<Plain>, links: &[(usize, usize, u32)]) -> Result
 }
 
 // Makes one edit.
-pub fn make(filing: &mut Filing<Plain>, edit: Edit) -> Result<(), Refusal>
-    requires { Sound plainKind filing.old.plan }
-    ensures { Sound plainKind filing.new.plan }
-{
+fn make(filing: &mut Filing<Plain>, edit: Edit) -> Result<(), Refusal> {
     match edit {
         Edit::Enter(code) => {
             filing.enter(&code)?;
@@ -186,56 +176,40 @@ pub fn make(filing: &mut Filing<Plain>, edit: Edit) -> Result<(), Refusal>
     }
 }
 
-fn gathered(answer: Answer<Plain>, marks: [u8; 6], record: [Entry; 6]) -> Seen {
-    Seen {
-        figure: answer.figure.amount(),
-        marks,
-        record,
-        mergers: answer.mergers,
-        scans: answer.scans,
-        kept: answer.kept,
-    }
-}
-
 // The weakest division by a queue, or that with one link out.
 pub fn asked<Q: PriorityQueue<Weight = Plain>>(
     filing: &mut Filing<Plain>,
     queue: &mut Q,
     without: Option<usize>,
 ) -> Result<Seen, Refusal>
-    requires filing { Sound plainKind filing.old.plan }
-    requires queue { Q.PriorityQueue.sound queue.old }
-    ensures { Sound plainKind filing.new.plan }
+    requires { Q.PriorityQueue.sound queue.old }
 {
     let mut marks = [UNTOUCHED; 6];
     let mut record = [BLANK; 6];
     let mut table = [Plain::nothing(); 36];
-    match without {
-        None => {
-            let answer = weakest(filing, queue, &mut marks, &mut record, &mut table)?;
-            Ok(gathered(answer, marks, record))
-        }
-        Some(link) => {
-            let answer = trial(filing, link, queue, &mut marks, &mut record, &mut table)?;
-            Ok(gathered(answer, marks, record))
-        }
-    }
+    let answer = match without {
+        None => weakest(filing, queue, &mut marks, &mut record, &mut table)?,
+        Some(link) => trial(filing, link, queue, &mut marks, &mut record, &mut table)?,
+    };
+    Ok(Seen {
+        figure: answer.figure.amount(),
+        marks,
+        record,
+        mergers: answer.mergers,
+        scans: answer.scans,
+        kept: answer.kept,
+    })
 }
 
 // The weakest division, or that with one link out, by the list queue.
-pub fn by_list(filing: &mut Filing<Plain>, without: Option<usize>) -> Result<Seen, Refusal>
-    requires { Sound plainKind filing.old.plan }
-    ensures { Sound plainKind filing.new.plan }
-{
+pub fn by_list(filing: &mut Filing<Plain>, without: Option<usize>) -> Result<Seen, Refusal> {
     let mut slots = [Slot::<Plain>::empty(); 64];
     let mut queue = ListQueue::over(&mut slots);
     asked(filing, &mut queue, without)
 }
 
 // Whether the plan is the one of four units.
-fn is_example(filing: &Filing<Plain>) -> bool
-    requires { Sound plainKind filing.now.plan }
-{
+fn is_example(filing: &Filing<Plain>) -> bool {
     let plan = filing.plan();
     let codes = plan
         .units()
@@ -262,39 +236,33 @@ pub fn worked_out(units: u8, links: &[(usize, usize, u32)]) -> Result<Seen, Refu
 }
 
 // Reads the plan of four units and works it out.
-pub fn begin(rt: &impl Abort, filing: &mut Filing<Plain>) -> Result<(), Fail>
-    requires { Sound plainKind filing.old.plan }
-    ensures { Sound plainKind filing.new.plan }
-{
+pub fn begin(rt: &impl Abort, filing: &mut Filing<Plain>) -> Result<(), Fail> {
     filing.read(&SHEET)?;
     assert_eq!(rt; by_list(filing, None)?, BEGUN);
     Ok(())
 }
 
 // Checks that the plan of four units is as it began, and keeps its marks.
-pub fn unchanged(rt: &impl Abort, filing: &mut Filing<Plain>) -> Result<(), Fail>
-    requires { Sound plainKind filing.old.plan }
-    ensures { Sound plainKind filing.new.plan }
-{
+pub fn unchanged(rt: &impl Abort, filing: &mut Filing<Plain>) -> Result<(), Fail> {
     assert!(rt; is_example(filing));
     assert_eq!(rt; by_list(filing, None)?, KEPT);
     Ok(())
 }
 
 // Checks the kept flag and the figure of weakest.
-fn answers(rt: &impl Abort, filing: &mut Filing<Plain>, kept: bool, figure: u32) -> Result<(), Fail>
-    requires { Sound plainKind filing.old.plan }
-    ensures { Sound plainKind filing.new.plan }
-{
+fn answers(
+    rt: &impl Abort,
+    filing: &mut Filing<Plain>,
+    kept: bool,
+    figure: u32,
+) -> Result<(), Fail> {
     let seen = by_list(filing, None)?;
     assert_eq!(rt; (seen.kept, seen.figure), (kept, figure));
     Ok(())
 }
 
 // The weight of a division, or the number of the refusal.
-fn weighed(filing: &Filing<Plain>, marks: &[u8]) -> Result<u32, u8>
-    requires { Sound plainKind filing.now.plan }
-{
+fn weighed(filing: &Filing<Plain>, marks: &[u8]) -> Result<u32, u8> {
     filing
         .weigh(marks)
         .map(|weight| weight.amount())
@@ -302,19 +270,13 @@ fn weighed(filing: &Filing<Plain>, marks: &[u8]) -> Result<u32, u8>
 }
 
 // The figure with one link out, or the number of the refusal.
-fn tried(filing: &mut Filing<Plain>, link: usize) -> Result<u32, u8>
-    requires { Sound plainKind filing.old.plan }
-    ensures { Sound plainKind filing.new.plan }
-{
+fn tried(filing: &mut Filing<Plain>, link: usize) -> Result<u32, u8> {
     by_list(filing, Some(link))
         .map(|seen| seen.figure)
         .map_err(|why| why.number())
 }
 
-fn take(rt: &impl Abort, filing: &mut Filing<Plain>, step: Step) -> Result<(), Fail>
-    requires { Sound plainKind filing.old.plan }
-    ensures { Sound plainKind filing.new.plan }
-{
+fn take(rt: &impl Abort, filing: &mut Filing<Plain>, step: Step) -> Result<(), Fail> {
     match step {
         Step::Begin => begin(rt, filing),
         Step::Make(edit) => {
@@ -339,10 +301,7 @@ fn take(rt: &impl Abort, filing: &mut Filing<Plain>, step: Step) -> Result<(), F
 }
 
 // Goes through the steps of a test.
-pub fn follow(rt: &impl Abort, filing: &mut Filing<Plain>, steps: &[Step]) -> Result<(), Fail>
-    requires { Sound plainKind filing.old.plan }
-    ensures { Sound plainKind filing.new.plan }
-{
+pub fn follow(rt: &impl Abort, filing: &mut Filing<Plain>, steps: &[Step]) -> Result<(), Fail> {
     for next in steps {
         take(rt, filing, *next)?;
     }

@@ -1,7 +1,4 @@
 // Weakest divisions, worked out by hand.
-ghost use Rattle.plans.specs.Sound.{Sound};
-ghost use Rattle.weights.specs.contracts.ranked.RankedWeight.TheImpl.{ghosts as rankedKind};
-
 use crate::bench::*;
 use crate::example::{LINKS, RANKED_SHEET};
 use answers::weakest::weakest;
@@ -91,9 +88,7 @@ fn three_by_three(rt: HostRuntime) -> Result<(), Fail> {
 }
 
 // The parts of the figure, and the marks.
-fn weakest_ranked(filing: &mut Filing<Ranked>) -> Result<((u32, u32), [u8; 3]), Refusal>
-    requires { Sound rankedKind filing.old.plan }
-{
+fn weakest_ranked(filing: &mut Filing<Ranked>) -> Result<((u32, u32), [u8; 3]), Refusal> {
     let mut slots = [Slot::<Ranked>::empty(); 64];
     let mut queue = ListQueue::over(&mut slots);
     let mut marks = [UNTOUCHED; 3];

@@ -1,6 +1,0 @@
-use Rattle.plans.specs.Sound.{Sound}
-use Rattle.weights.specs.contracts.plain.PlainWeight.TheImpl.{ghosts as plainKind}
-use Rattle.worked.proofs.bench.join.Given as goal
-
-abbrev pub invariant-loop-first : goal.invariant-loop-first
-invariant-loop-first l = Sound plainKind l.filing.plan
