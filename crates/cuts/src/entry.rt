@@ -4,7 +4,8 @@ ghost use Rattle.std.specs.Prelude.{Some};
 use crate::ground::Ground;
 use std::fmt;
 
-// The two groups as they stood, the lower one first, the ground, and the scan's number from 1, or 0 for a test.
+// The two groups as they stood, the lower one first, the ground, and the scan's number from 1, or 0 for a test: a number
+// and no `Option`, since records are printed and compared as these four numbers.
 #[derive(Clone, Copy, PartialEq, Eq, Debug)]
 pub struct Entry {
     pub low: u8,

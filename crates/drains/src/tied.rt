@@ -53,6 +53,7 @@ impl<W: Weight> TiedQueue<W> {
     {
         let mut best: Option<(usize, W)> = None;
         for (group, key) in self.keys.iter().enumerate() {
+            // nested, as in the list's search for the heaviest
             if let Some(key) = *key {
                 if preferred(self.tie, key, best) {
                     best = Some((group, key));

@@ -69,6 +69,7 @@ impl<'a, W: Weight> ListQueue<'a, W> {
     {
         let mut best: Option<(usize, W)> = None;
         for (group, slot) in self.slots[..self.reach].iter().enumerate() {
+            // nested, since of `if let` with `&&` nothing is known where the slot is empty
             if let Some(key) = slot.key {
                 if heavier(key, best) {
                     best = Some((group, key));

@@ -35,10 +35,10 @@ module _ {W : Type 0} (g : Ghosts W) (bs : List ℕ) where
     issue_read {r} s e t = at_place (λ x q. issue_verdict (two_at x q)) (λ x q i. (i ≡ issue_from (two_at x q)) × (bytes_at x q 2 ≡ two (issue_number i))) Head 2 r b a bs 3 b.part s e t
 
     pub kind_read : {r : Result (Unit {0}) Fault} → Stands bs 5 b → b.part ≡ Head
-        → Took b b.part 1 (check (eqb (byte_at b.bytes.now b.at) g.tag) OtherKind accepted) r a (λ _. byte_at b.bytes.now b.at ≡ g.tag)
-        → One kind 6 r a (λ _. byte_at bs 5 ≡ g.tag)
+        → Took b b.part 1 (check (eqb (byte_at b.bytes.now b.at) g.KIND) OtherKind accepted) r a (λ _. byte_at b.bytes.now b.at ≡ g.KIND)
+        → One kind 6 r a (λ _. byte_at bs 5 ≡ g.KIND)
     unfolding fault_of
-    kind_read {r} s e t = at_place (λ x q. check (eqb (byte_at x q) g.tag) OtherKind accepted) (λ x q _. byte_at x q ≡ g.tag) Head 1 r b a bs 5 b.part s e t
+    kind_read {r} s e t = at_place (λ x q. check (eqb (byte_at x q) g.KIND) OtherKind accepted) (λ x q _. byte_at x q ≡ g.KIND) Head 1 r b a bs 5 b.part s e t
 
     pub units_read : {r : Result ℕ Fault} → Stands bs 6 b → b.part ≡ Head
         → Took b b.part 1 (check (leb (byte_at b.bytes.now b.at) most_units) Full accepted) r a (λ n. (n ≡ byte_at b.bytes.now b.at) × (n ≤ most_units))
@@ -60,7 +60,7 @@ module _ {W : Type 0} (g : Ghosts W) (bs : List ℕ) where
       (cases_Bool (leb (place_of g bs f + size_of g bs f) (length bs)))
 
   -- the nine bytes of the head
-  pub head_bytes : (i : Issue) (u l : ℕ) → 9 ≤ length bs → bytes_at bs 0 3 ≡ format.magic → bytes_at bs 3 2 ≡ two (issue_number i) → byte_at bs 5 ≡ g.tag → u ≡ byte_at bs 6 → bytes_at bs 7 2 ≡ two l → bytes_at bs 0 9 ≡ bytes_of_head g i u l
+  pub head_bytes : (i : Issue) (u l : ℕ) → 9 ≤ length bs → bytes_at bs 0 3 ≡ format.magic → bytes_at bs 3 2 ≡ two (issue_number i) → byte_at bs 5 ≡ g.KIND → u ≡ byte_at bs 6 → bytes_at bs 7 2 ≡ two l → bytes_at bs 0 9 ≡ bytes_of_head g i u l
   head_bytes i u l len m is k us ls =
       let one = bytes_join bs 0 3 6 in
       let next = bytes_join bs 3 2 4 in
@@ -69,5 +69,5 @@ module _ {W : Type 0} (g : Ghosts W) (bs : List ℕ) where
       let a = byte_alone bs 5 (omega arith) in
       let b = byte_alone bs 6 (omega arith) in
       let last : bytes_at bs 6 3 ≡ u ∷ two l = fourth ∙ (ap (λ x. x ++ bytes_at bs 7 2) (b ∙ ap (λ x. x ∷ []) (sym us)) ∙ ap (λ x. u ∷ x) ls) in
-      let more : bytes_at bs 5 4 ≡ g.tag ∷ u ∷ two l = third ∙ (ap (λ x. x ++ bytes_at bs 6 3) (a ∙ ap (λ x. x ∷ []) k) ∙ ap (λ x. g.tag ∷ x) last) in
+      let more : bytes_at bs 5 4 ≡ g.KIND ∷ u ∷ two l = third ∙ (ap (λ x. x ++ bytes_at bs 6 3) (a ∙ ap (λ x. x ∷ []) k) ∙ ap (λ x. g.KIND ∷ x) last) in
       one ∙ (ap (λ x. x ++ bytes_at bs 3 6) m ∙ ap (λ x. format.magic ++ x) (next ∙ (ap (λ x. x ++ bytes_at bs 5 4) is ∙ ap (λ x. two (issue_number i) ++ x) more)))

@@ -16,7 +16,7 @@ use Rattle.readers.proofs.Heads.{One}
 use Rattle.readers.proofs.Pieces.{at_place, bytes_join, byte_alone}
 
 module _ {W : Type 0} (g : Ghosts W) (bs : List ℕ) where
-  pub next_link : (k : ℕ) → number_place g bs k g.arity ≡ link_place g bs (k + 1)
+  pub next_link : (k : ℕ) → number_place g bs k g.PARTS ≡ link_place g bs (k + 1)
   next_link k = let s = link_size g in let p = add-mul k 1 s in let q = one-mul s in omega arith
 
   pub first_link : code_place bs (units_in bs) ≡ link_place g bs 0
@@ -63,13 +63,13 @@ module _ {W : Type 0} (g : Ghosts W) (bs : List ℕ) where
       let one = byte_alone bs p (omega arith) ∙ ap (λ v. v ∷ []) (sym xe) in
       let two = byte_alone bs (p + 1) (omega arith) ∙ ap (λ v. v ∷ []) (sym ye) in
       let three = byte_alone bs (p + 2) (omega arith) ∙ ap (λ v. v ∷ []) (sym me) in
-      let n = 4 * g.arity in
+      let n = 4 * g.PARTS in
       let a1 : p + 1 + 1 ≡ p + 2 = omega arith in
       let a2 : p + 2 + 1 ≡ number_place g bs k 0 = omega arith in
       let s3 : link_size g ≡ 1 + (1 + (1 + n)) = omega arith in
-      let last : bytes_at bs (p + 2) (1 + n) ≡ cond m 1 0 ∷ fours (g.nth (g.value w)) g.arity =
+      let last : bytes_at bs (p + 2) (1 + n) ≡ cond m 1 0 ∷ fours (g.nth (g.value w)) g.PARTS =
       bytes_join bs (p + 2) 1 n ∙ (ap (λ v. v ++ bytes_at bs (p + 2 + 1) n) three ∙ ap (λ v. cond m 1 0 ∷ v) (ap (λ q. bytes_at bs q n) a2 ∙ we.bytes)) in
-      let mid : bytes_at bs (p + 1) (1 + (1 + n)) ≡ y ∷ cond m 1 0 ∷ fours (g.nth (g.value w)) g.arity =
+      let mid : bytes_at bs (p + 1) (1 + (1 + n)) ≡ y ∷ cond m 1 0 ∷ fours (g.nth (g.value w)) g.PARTS =
       bytes_join bs (p + 1) 1 (1 + n) ∙ (ap (λ v. v ++ bytes_at bs (p + 1 + 1) (1 + n)) two ∙ ap (λ v. y ∷ v) (ap (λ q. bytes_at bs q (1 + n)) a1 ∙ last)) in
       record {
         joins = record { first = xl; second = yl; apart = ne; weighty = we.some };
@@ -81,8 +81,8 @@ module _ {W : Type 0} (g : Ghosts W) (bs : List ℕ) where
   -- what is promised of a weight and of a link at the cursor's place, at the place itself
   pub weight_here : (k : ℕ) {total : ℕ} {b a : Cursor} {r : Result W Fault} → Stands bs (number_place g bs k 0) b → b.part ≡ part.Link k → total ≡ total_in g bs k
       → ((j : ℕ) → b.part ≡ part.Link j → b.at ≡ number_place g b.bytes.now j 0 → total ≡ total_in g b.bytes.now j
-      → Reads g b.bytes.now (number_fields j g.arity ++ (weight j ∷ [])) r a (number_place g b.bytes.now j g.arity) (Weighed g b.bytes.now j))
-      → Reads g bs (number_fields k g.arity ++ (weight k ∷ [])) r a (number_place g bs k g.arity) (Weighed g bs k)
+      → Reads g b.bytes.now (number_fields j g.PARTS ++ (weight j ∷ [])) r a (number_place g b.bytes.now j g.PARTS) (Weighed g b.bytes.now j))
+      → Reads g bs (number_fields k g.PARTS ++ (weight k ∷ [])) r a (number_place g bs k g.PARTS) (Weighed g bs k)
   weight_here k s w sum h = let here = rw s.bytes at (h k) in here w s.place sum
 
   pub link_here : (k : ℕ) {units total : ℕ} {b a : Cursor} {r : Result (Link W) Fault} → Stands bs (link_place g bs k) b → units ≡ units_in bs → total ≡ total_in g bs k

@@ -68,15 +68,15 @@ module _ {W : Type 0} (g : Ghosts W) (bs : List ℕ) (k : ℕ) where
         };
       }
 
-  module _ (exact : Exact g.arity g.of g.nth) (parts : List ℕ) (all : Numbers g bs k g.arity parts) where
+  module _ (exact : Exact g.PARTS g.of g.nth) (parts : List ℕ) (all : Numbers g bs k g.PARTS parts) where
     -- the weight with the numbers that were read
     pub weight_is : g.of (λ i. get_or parts i 0) ≡ weight_in g bs k
     weight_is = exact.same _ _ all.values
 
-    pub weight_bytes : (v : g.Value) → v ≡ weight_in g bs k → bytes_at bs (number_place g bs k 0) (4 * g.arity) ≡ fours (g.nth v) g.arity
-    weight_bytes v e = all.bytes ∙ fours_same _ (g.nth v) g.arity (λ i h. sym (ap (λ x. g.nth x i) e ∙ exact.holds _ i h))
+    pub weight_bytes : (v : g.Value) → v ≡ weight_in g bs k → bytes_at bs (number_place g bs k 0) (4 * g.PARTS) ≡ fours (g.nth v) g.PARTS
+    weight_bytes v e = all.bytes ∙ fours_same _ (g.nth v) g.PARTS (λ i h. sym (ap (λ x. g.nth x i) e ∙ exact.holds _ i h))
 
-    weight_fault : (total : ℕ) (v : Option Refusal) → total ≡ total_in g bs k → number_place g bs k 0 + 4 * g.arity ≤ length bs
+    weight_fault : (total : ℕ) (v : Option Refusal) → total ≡ total_in g bs k → number_place g bs k 0 + 4 * g.PARTS ≤ length bs
         → weight_verdict total (g.size (g.of (λ i. get_or parts i 0))) ≡ v → fault_of g bs (weight k) ≡ fault_with (number_place g bs k 0) (part.Link k) v
     unfolding fault_of
     weight_fault total v t len h =
@@ -91,27 +91,27 @@ module _ {W : Type 0} (g : Ghosts W) (bs : List ℕ) (k : ℕ) where
         (λ w. (weight_verdict total (g.size (g.of (λ i. get_or parts i 0))) ≡ None) × (g.value w ≡ g.of (λ i. get_or parts i 0)) × (0 < g.size (g.value w)) × (total + g.size (g.value w) ≤ most_total))
         (λ e. weight_verdict total (g.size (g.of (λ i. get_or parts i 0))) ≡ Some e)
 
-    module _ (a : Cursor) (total : ℕ) (t : total ≡ total_in g bs k) (clear : Faultless g bs (number_fields k g.arity)) (at : Stands bs (number_place g bs k g.arity) a) (len : number_place g bs k 0 + 4 * g.arity ≤ length bs) where
-      weight_read : (w : W) → Judged total (Ok w) → Reads g bs (number_fields k g.arity ++ (weight k ∷ [])) (Ok w) a (number_place g bs k g.arity) (Weighed g bs k)
+    module _ (a : Cursor) (total : ℕ) (t : total ≡ total_in g bs k) (clear : Faultless g bs (number_fields k g.PARTS)) (at : Stands bs (number_place g bs k g.PARTS) a) (len : number_place g bs k 0 + 4 * g.PARTS ≤ length bs) where
+      weight_read : (w : W) → Judged total (Ok w) → Reads g bs (number_fields k g.PARTS ++ (weight k ∷ [])) (Ok w) a (number_place g bs k g.PARTS) (Weighed g bs k)
       weight_read w h =
           let v = h.1 ∙ weight_is in
           record {
             taken = (
-              All-append (λ f. fault_of g bs f ≡ None) (number_fields k g.arity) (weight k ∷ []) clear (weight_fault total None t len h.0, tt),
+              All-append (λ f. fault_of g bs f ≡ None) (number_fields k g.PARTS) (weight k ∷ []) clear (weight_fault total None t len h.0, tt),
               record { value = v; some = h.2; limited = subst (λ n. n + g.size (g.value w) ≤ most_total) t h.3; bytes = weight_bytes (g.value w) v },
             );
             moved = at;
           }
 
-      weight_refused : (e : Refusal) → Judged total (Err e) → FirstIn g bs (number_fields k g.arity ++ (weight k ∷ [])) (record { refusal = e; place = number_place g bs k 0; part = part.Link k })
-      weight_refused e h = in_right g bs (number_fields k g.arity) (weight k ∷ []) _ clear (in_one g bs (weight k) _ (weight_fault total (Some e) t len h))
+      weight_refused : (e : Refusal) → Judged total (Err e) → FirstIn g bs (number_fields k g.PARTS ++ (weight k ∷ [])) (record { refusal = e; place = number_place g bs k 0; part = part.Link k })
+      weight_refused e h = in_right g bs (number_fields k g.PARTS) (weight k ∷ []) _ clear (in_one g bs (weight k) _ (weight_fault total (Some e) t len h))
 
       -- the judgement as a result of reading
       pub weight_told : (place : ℕ) (q : Part) (j : Result W Refusal) (r : Result W Fault) → place ≡ number_place g bs k 0 → q ≡ part.Link k → Judged total j
           → MatchResult j (λ w. r ≡ Ok w) (λ e. r ≡ Err (record { refusal = e; place = place; part = q }))
-          → Reads g bs (number_fields k g.arity ++ (weight k ∷ [])) r a (number_place g bs k g.arity) (Weighed g bs k)
+          → Reads g bs (number_fields k g.PARTS ++ (weight k ∷ [])) r a (number_place g bs k g.PARTS) (Weighed g bs k)
       weight_told place q (Ok w) r p e h is =
-          subst (λ x. Reads g bs (number_fields k g.arity ++ (weight k ∷ [])) x a (number_place g bs k g.arity) (Weighed g bs k)) (sym is) (weight_read w h)
+          subst (λ x. Reads g bs (number_fields k g.PARTS ++ (weight k ∷ [])) x a (number_place g bs k g.PARTS) (Weighed g bs k)) (sym is) (weight_read w h)
       weight_told place q (Err d) r p e h is =
           let told : Fault = record { refusal = d; place = number_place g bs k 0; part = part.Link k } in
           let same : ◌≡◌ {A = Fault} (record { refusal = d; place = place; part = q }) told = cc in

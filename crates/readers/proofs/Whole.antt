@@ -42,7 +42,7 @@ module _ {W : Type 0} (g : Ghosts W) (bs : List ℕ) where
       All-append P head_fields rest a (All-append P (code_fields (units_in bs)) links b c)
 
 -- the two outcomes of reading
-module _ {W : Type 0} (g : Ghosts W) (bs : List ℕ) (exact : Exact g.arity g.of g.nth) (bounded : (x : W) → g.size (g.value x) ≤ limit) (narrow : (x : W) (j : ℕ) → g.nth (g.value x) j < 2 ^ 32) (told : (x y : W) → g.value x ≡ g.value y → x ≡ y) where
+module _ {W : Type 0} (g : Ghosts W) (bs : List ℕ) (exact : Exact g.PARTS g.of g.nth) (bounded : (x : W) → g.size (g.value x) ≤ limit) (narrow : (x : W) (j : ℕ) → g.nth (g.value x) j < 2 ^ 32) (told : (x y : W) → g.value x ≡ g.value y → x ≡ y) where
   pub refuses : {p : Plan W g} {r : Result (Unit {0}) Fault} {e : Fault} → IsErrAnd r (λ d. d ≡ e) → FirstFault g bs e → Outcome g bs p r p
   refuses {r = Ok x} is h = absurd is
   refuses {r = Err d} is h =

@@ -39,7 +39,7 @@ module _ {W : Type 0} (g : Ghosts W) (bs : List ℕ) where
     pub value : g.value w ≡ weight_in g bs k
     pub some : 0 < amount_of g w
     pub limited : total_in g bs k + amount_of g w ≤ most_total
-    pub bytes : bytes_at bs (number_place g bs k 0) (4 * g.arity) ≡ fours (g.nth (g.value w)) g.arity
+    pub bytes : bytes_at bs (number_place g bs k 0) (4 * g.PARTS) ≡ fours (g.nth (g.value w)) g.PARTS
 
   -- link k as the bytes have it
   pub record Linked (k : ℕ) (l : Link W) : Type 0 where

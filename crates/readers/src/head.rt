@@ -46,10 +46,10 @@ fn read_issue(cursor: &mut Cursor) -> Result<Issue, Fault>
 
 // Reads the kind byte: 3 if it is not that of the weights.
 fn read_kind<W: Weight>(cursor: &mut Cursor) -> Result<(), Fault>
-    ensures { Took cursor.old cursor.old.part 1 (check (byte_at cursor.old.bytes.now cursor.old.at == W.Weight.tag) Refusal.OtherKind accepted) result cursor.new (λ _. byte_at cursor.old.bytes.now cursor.old.at ≡ W.Weight.tag) }
+    ensures { Took cursor.old cursor.old.part 1 (check (byte_at cursor.old.bytes.now cursor.old.at == W.Weight.KIND) Refusal.OtherKind accepted) result cursor.new (λ _. byte_at cursor.old.bytes.now cursor.old.at ≡ W.Weight.KIND) }
 {
     let place = cursor.place();
-    if cursor.byte()? != W::kind_byte() {
+    if cursor.byte()? != W::KIND {
         return Err(cursor.fault(Refusal::OtherKind, place));
     }
     Ok(())

@@ -44,12 +44,12 @@ fn judge<W: Weight>(parts: &[u32], total: u32) -> Result<W, Refusal>
 pub fn read_weight<W: Weight>(cursor: &mut Cursor, total: u32) -> Result<W, Fault>
     requires { total ≤ most_total }
     ensures some { IfOk result (λ w. (0 < amount_of W.Weight w) × (total + amount_of W.Weight w ≤ most_total)) }
-    ensures reads { (k : ℕ) → cursor.old.part ≡ Part.Link k → cursor.old.at ≡ number_place W.Weight cursor.old.bytes.now k 0 → total ≡ total_in W.Weight cursor.old.bytes.now k → Reads W.Weight cursor.old.bytes.now (number_fields k W.Weight.arity ++ (weight k ∷ [])) result cursor.new (number_place W.Weight cursor.old.bytes.now k W.Weight.arity) (Weighed W.Weight cursor.old.bytes.now k) }
+    ensures reads { (k : ℕ) → cursor.old.part ≡ Part.Link k → cursor.old.at ≡ number_place W.Weight cursor.old.bytes.now k 0 → total ≡ total_in W.Weight cursor.old.bytes.now k → Reads W.Weight cursor.old.bytes.now (number_fields k W.Weight.PARTS ++ (weight k ∷ [])) result cursor.new (number_place W.Weight cursor.old.bytes.now k W.Weight.PARTS) (Weighed W.Weight cursor.old.bytes.now k) }
 {
     let place = cursor.place();
     // No heap: memory for eight parts, the most that a weight has. The kind tells how many are read.
     let mut memory = [0u32; 8];
-    let parts = &mut memory[..W::part_count()];
+    let parts = &mut memory[..W::PARTS];
     read_numbers::<W>(cursor, parts)?;
     cursor.judged(judge(parts, total), place)
 }

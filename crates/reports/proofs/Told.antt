@@ -22,7 +22,7 @@ told_anew P Q (Ok x) p h = h x p
 told_anew P Q (Err e) p h = tt
 
 -- a plan's sheet has no first fault
-pub told_of_right : {W : Type 0} (g : Ghosts W) → Exact g.arity g.of g.nth → ((x : W) → g.size (g.value x) ≤ limit) → ((x : W) (j : ℕ) → g.nth (g.value x) j < 2 ^ 32)
+pub told_of_right : {W : Type 0} (g : Ghosts W) → Exact g.PARTS g.of g.nth → ((x : W) → g.size (g.value x) ≤ limit) → ((x : W) (j : ℕ) → g.nth (g.value x) j < 2 ^ 32)
     → (bs text : List ℕ) (i : Issue) (m : Model W) → bs ≡ sheet_of g i m → Valid g i m → TellsFault g bs text
 told_of_right g exact bounded narrow bs text i m e valid fault first =
     let right : Right g bs = subst (λ (b : List ℕ). Right g b) (sym e) (sheet_right g exact bounded narrow i m valid) in

@@ -38,7 +38,7 @@ fn shown<W: Weight>(
     record: &[Entry],
 ) -> Result<String, AllocError> {
     let mut text = String::new(heap);
-    for part in 0..W::part_count() {
+    for part in 0..W::PARTS {
         writeln!(text, "{}", figure.part(part))?;
     }
     for (unit, mark) in units.iter().zip(marks) {

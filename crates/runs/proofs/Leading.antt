@@ -52,7 +52,7 @@ module _ {W : Type 0} (g : Ghosts W) where
   led [] s t f = tt
   led (x ∷ xs) s t f = (f.0, (f.1.0.plan, step_after x.call x.reply s f.1.0 f.1.1, led xs f.1.0 t f.1.2))
 
-  module _ (exact : Exact g.arity g.of g.nth) (narrow : (x : W) (i : ℕ) → g.nth (g.value x) i < 2 ^ 32) (told : (x y : W) → g.value x ≡ g.value y → x ≡ y) where
+  module _ (exact : Exact g.PARTS g.of g.nth) (narrow : (x : W) (i : ℕ) → g.nth (g.value x) i < 2 ^ 32) (told : (x y : W) → g.value x ≡ g.value y → x ≡ y) where
     becomes_one : (c : Call W) (m n o : Model W) → Becomes g m c n → Becomes g m c o → n ≡ o
     becomes_one (call.Enter v) m n o p q = p ∙ sym q
     becomes_one (call.Recode k v) m n o p q = p ∙ sym q

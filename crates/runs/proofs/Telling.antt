@@ -128,9 +128,9 @@ issue_same First Second e = absurd (omega arith)
 issue_same Second First e = absurd (omega arith)
 issue_same Second Second e = refl
 
-module _ {W : Type 0} (g : Ghosts W) (exact : Exact g.arity g.of g.nth) (narrow : (x : W) (i : ℕ) → g.nth (g.value x) i < 2 ^ 32) (told : (x y : W) → g.value x ≡ g.value y → x ≡ y) where
-  weight_told : (v w : W) → fours (g.nth (g.value v)) g.arity ≡ fours (g.nth (g.value w)) g.arity → v ≡ w
-  weight_told v w e = told v w (sym (exact.back (g.value v)) ∙ exact.same (g.nth (g.value v)) (g.nth (g.value w)) (fours_same (g.nth (g.value v)) (g.nth (g.value w)) g.arity (narrow v) (narrow w) e) ∙ exact.back (g.value w))
+module _ {W : Type 0} (g : Ghosts W) (exact : Exact g.PARTS g.of g.nth) (narrow : (x : W) (i : ℕ) → g.nth (g.value x) i < 2 ^ 32) (told : (x y : W) → g.value x ≡ g.value y → x ≡ y) where
+  weight_told : (v w : W) → fours (g.nth (g.value v)) g.PARTS ≡ fours (g.nth (g.value w)) g.PARTS → v ≡ w
+  weight_told v w e = told v w (sym (exact.back (g.value v)) ∙ exact.same (g.nth (g.value v)) (g.nth (g.value w)) (fours_same (g.nth (g.value v)) (g.nth (g.value w)) g.PARTS (narrow v) (narrow w) e) ∙ exact.back (g.value w))
 
   link_told : (k l : Link W) → link_bytes g k ≡ link_bytes g l → k ≡ l
   link_told k l e =
@@ -144,7 +144,7 @@ module _ {W : Type 0} (g : Ghosts W) (exact : Exact g.arity g.of g.nth) (narrow 
       λ i. record { first = a i; second = b i; in_service = c i; weight = d i }
 
   link_sized : (l : Link W) → length (link_bytes g l) ≡ link_size g
-  link_sized l = let e = length_fours (g.nth (g.value l.weight)) g.arity in omega arith
+  link_sized l = let e = length_fours (g.nth (g.value l.weight)) g.PARTS in omega arith
 
   -- the codes and links of a sheet, in one issue
   unfoldable body : Issue → Model W → List ℕ

@@ -193,7 +193,7 @@ module _ {W : Type 0} (g : Ghosts W) where
           good xs u t (step_holds x.call x.reply s u h step) f.1.2,
         )
 
-    module _ (exact : Exact g.arity g.of g.nth) (narrow : (x : W) (i : ℕ) → g.nth (g.value x) i < 2 ^ 32) (told : (x y : W) → g.value x ≡ g.value y → x ≡ y) where
+    module _ (exact : Exact g.PARTS g.of g.nth) (narrow : (x : W) (i : ℕ) → g.nth (g.value x) i < 2 ^ 32) (told : (x y : W) → g.value x ≡ g.value y → x ≡ y) where
       same : (xs ys : List (Turn W)) → AllByRecursion Good xs → AllByRecursion Good ys → SameFigures g xs ys
       same xs ys p q x y m o a b hx hy sx sy alike =
           let c = (all-has Good xs x p hx).answers m a sx in

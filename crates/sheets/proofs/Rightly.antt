@@ -66,7 +66,7 @@ module _ {W : Type 0} (g : Ghosts W) (i : Issue) (m : Model W) (v : Valid g i m)
         (
           fine g S issue (omega arith) (issue_fine i),
           (
-            fine g S kind (omega arith) (passes OtherKind accepted (eq-eqb g.tag g.tag refl)),
+            fine g S kind (omega arith) (passes OtherKind accepted (eq-eqb g.KIND g.KIND refl)),
             (
               fine g S units (omega arith) (passes Full accepted (le-leb (length m.codes) 64 few)),
               (
@@ -89,7 +89,7 @@ module _ {W : Type 0} (g : Ghosts W) (i : Issue) (m : Model W) (v : Valid g i m)
         tt,
       )
 
-  module _ (exact : Exact g.arity g.of g.nth) (bounded : (x : W) → g.size (g.value x) ≤ limit) (narrow : (x : W) (j : ℕ) → g.nth (g.value x) j < 2 ^ 32) (d : Link W) where
+  module _ (exact : Exact g.PARTS g.of g.nth) (bounded : (x : W) → g.size (g.value x) ≤ limit) (narrow : (x : W) (j : ℕ) → g.nth (g.value x) j < 2 ^ 32) (d : Link W) where
     module _ (k : ℕ) (lt : k < length m.links) where
       l : Link W
       l = get_or m.links k d
@@ -98,15 +98,15 @@ module _ {W : Type 0} (g : Ghosts W) (i : Issue) (m : Model W) (v : Valid g i m)
       unfolding l
       byte_seen j h = byte_in S (link_bytes g l) (link_place g S k) (link_size g) j (link_seen g i m v k d lt) h
 
-      digit_seen : (j r : ℕ) → j < g.arity → r < 4 → byte_at S (number_place g S k j + r) ≡ get_or (four (g.nth (g.value l.weight) j)) r 0
+      digit_seen : (j r : ℕ) → j < g.PARTS → r < 4 → byte_at S (number_place g S k j + r) ≡ get_or (four (g.nth (g.value l.weight) j)) r 0
       digit_seen j r h small =
           let f = g.nth (g.value l.weight) in
           let e : number_place g S k j + r ≡ link_place g S k + (3 + (4 * j + r)) = omega arith in
           ap (byte_at S) e
           ∙ (byte_seen (3 + (4 * j + r)) (omega arith)
-          ∙ (get_or-append-add (l.first ∷ l.second ∷ cond l.in_service 1 0 ∷ []) (fours f g.arity) (4 * j + r) 0 ∙ fours_at f g.arity j r h small))
+          ∙ (get_or-append-add (l.first ∷ l.second ∷ cond l.in_service 1 0 ∷ []) (fours f g.PARTS) (4 * j + r) 0 ∙ fours_at f g.PARTS j r h small))
 
-      number_seen : (j : ℕ) → j < g.arity → four_at S (number_place g S k j) ≡ g.nth (g.value l.weight) j
+      number_seen : (j : ℕ) → j < g.PARTS → four_at S (number_place g S k j) ≡ g.nth (g.value l.weight) j
       number_seen j h =
           let a = digit_seen j 0 h (omega arith) in
           let z = ap (byte_at S) (add-zero (number_place g S k j)) in
@@ -133,8 +133,8 @@ module _ {W : Type 0} (g : Ghosts W) (i : Issue) (m : Model W) (v : Valid g i m)
       mark_small true = omega arith
       mark_small false = omega arith
 
-      numbers_clear : Faultless g S (number_fields k g.arity)
-      numbers_clear = clear_all g S (λ j. number k j ∷ []) g.arity (λ j h. (fine g S (number k j) (let e = ends in omega arith) refl, tt))
+      numbers_clear : Faultless g S (number_fields k g.PARTS)
+      numbers_clear = clear_all g S (λ j. number k j ∷ []) g.PARTS (λ j h. (fine g S (number k j) (let e = ends in omega arith) refl, tt))
 
     total_seen : (k : ℕ) → k ≤ length m.links → total_in g S k ≡ total_of g (take k m.links)
     unfolding l
@@ -170,7 +170,7 @@ module _ {W : Type 0} (g : Ghosts W) (i : Issue) (m : Model W) (v : Valid g i m)
             fine g S (second k) (omega arith) (ap₂ (other_verdict (length m.codes)) b0 b1 ∙ (passes NoSuchUnit _ (lt-ltb _ _ j.second) ∙ passes SelfLink accepted (ap not (ne_eqb _ _ j.apart)))),
             (
               fine g S (mark k) (omega arith) (ap (λ x. check (ltb x 2) BadMark accepted) b2 ∙ passes BadMark accepted (lt-ltb _ 2 (mark_small k lt (l k lt).in_service))),
-              All-append (λ x. fault_of g S x ≡ None) (number_fields k g.arity) (weight k ∷ []) (numbers_clear k lt) (
+              All-append (λ x. fault_of g S x ≡ None) (number_fields k g.PARTS) (weight k ∷ []) (numbers_clear k lt) (
                 fine g S (weight k) (omega arith)
                     (ap₂ weight_verdict total amount
                     ∙ (passes NoWeight _ (ap not (ne_eqb _ 0 (λ z. let p = j.weighty in omega arith)))
@@ -181,7 +181,7 @@ module _ {W : Type 0} (g : Ghosts W) (i : Issue) (m : Model W) (v : Valid g i m)
           ),
         )
 
-pub sheet_right : {W : Type 0} (g : Ghosts W) → Exact g.arity g.of g.nth → ((x : W) → g.size (g.value x) ≤ limit) → ((x : W) (j : ℕ) → g.nth (g.value x) j < 2 ^ 32)
+pub sheet_right : {W : Type 0} (g : Ghosts W) → Exact g.PARTS g.of g.nth → ((x : W) → g.size (g.value x) ≤ limit) → ((x : W) (j : ℕ) → g.nth (g.value x) j < 2 ^ 32)
     → (i : Issue) (m : Model W) → Valid g i m → Right g (sheet_of g i m)
 unfolding fields
 sheet_right {W} g exact bounded narrow i m v =

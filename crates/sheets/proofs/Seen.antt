@@ -117,7 +117,7 @@ module _ {W : Type 0} (g : Ghosts W) (i : Issue) (m : Model W) (v : Valid g i m)
 
   links_sized : (xs : List (Link W)) → AllByRecursion (λ l. length (link_bytes g l) ≡ link_size g) xs
   links_sized [] = tt
-  links_sized (l ∷ xs) = (let e = length_fours (g.nth (g.value l.weight)) g.arity in omega arith, links_sized xs)
+  links_sized (l ∷ xs) = (let e = length_fours (g.nth (g.value l.weight)) g.PARTS in omega arith, links_sized xs)
 
   length_codes : length cs ≡ length m.codes * size_of_code i
   length_codes = length_joined (code_field i) (size_of_code i) m.codes (all_sized m.codes v.codes v.fit)

@@ -27,15 +27,15 @@ fours_told f h n small low e j lt =
     let y = four_digits (h j) (low j) in
     omega arith
 
-module _ {W : Type 0} (g : Ghosts W) (exact : Exact g.arity g.of g.nth) (narrow : (x : W) (j : ℕ) → g.nth (g.value x) j < 2 ^ 32) (told : (x y : W) → g.value x ≡ g.value y → x ≡ y) where
+module _ {W : Type 0} (g : Ghosts W) (exact : Exact g.PARTS g.of g.nth) (narrow : (x : W) (j : ℕ) → g.nth (g.value x) j < 2 ^ 32) (told : (x y : W) → g.value x ≡ g.value y → x ≡ y) where
   link_told : (l k : Link W) → link_bytes g l ≡ link_bytes g k → l ≡ k
   link_told l k e =
       let a : l.first ≡ k.first = cc in
       let b : l.second ≡ k.second = cc in
       let c : ◌≡◌ {A = ℕ} (cond l.in_service 1 0) (cond k.in_service 1 0) = cc in
-      let d : fours (g.nth (g.value l.weight)) g.arity ≡ fours (g.nth (g.value k.weight)) g.arity = cc in
+      let d : fours (g.nth (g.value l.weight)) g.PARTS ≡ fours (g.nth (g.value k.weight)) g.PARTS = cc in
       let s = marks_told l.in_service k.in_service c in
-      let parts = fours_told (g.nth (g.value l.weight)) (g.nth (g.value k.weight)) g.arity (narrow l.weight) (narrow k.weight) d in
+      let parts = fours_told (g.nth (g.value l.weight)) (g.nth (g.value k.weight)) g.PARTS (narrow l.weight) (narrow k.weight) d in
       let w = told l.weight k.weight (sym (exact.back (g.value l.weight)) ∙ (exact.same _ _ parts ∙ exact.back (g.value k.weight))) in
       ap₂ (λ x y. record { first = x; second = y; in_service = l.in_service; weight = l.weight }) a b
       ∙ ap₂ (λ x y. record { first = k.first; second = k.second; in_service = x; weight = y }) s w

@@ -63,7 +63,7 @@ module _ {W : Type 0} (g : Ghosts W) (bs : List ℕ) where
   abbrev pub wrong : Field → Option Refusal
   wrong magic = magic_verdict (bytes_at bs 0 3)
   wrong issue = issue_verdict (two_at bs 3)
-  wrong kind = check (byte_at bs 5 == g.tag) OtherKind accepted
+  wrong kind = check (byte_at bs 5 == g.KIND) OtherKind accepted
   wrong units = check (nat_le (units_in bs) most_units) Full accepted
   wrong links = check (nat_le (links_in bs) most_links) Full accepted
   wrong (code k) = code_verdict k (text_in bs k) (texts_in bs k)

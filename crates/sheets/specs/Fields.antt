@@ -146,11 +146,11 @@ module _ {W : Type 0} (g : Ghosts W) (bs : List ℕ) where
   size_of (second k) = 1
   size_of (mark k) = 1
   size_of (number k i) = 4
-  size_of (weight k) = 4 * g.arity
+  size_of (weight k) = 4 * g.PARTS
   size_of end = 0
 
   abbrev pub link_fields : ℕ → List Field
-  link_fields k = first k ∷ second k ∷ mark k ∷ (number_fields k g.arity ++ (weight k ∷ []))
+  link_fields k = first k ∷ second k ∷ mark k ∷ (number_fields k g.PARTS ++ (weight k ∷ []))
 
   -- all fields, in the order of the bytes
   unfoldable pub fields : List Field

@@ -44,15 +44,15 @@ fours f (suc n) = fours f n ++ four (f n)
 module _ {W : Type 0} (g : Ghosts W) where
   -- magic, issue, kind byte, number of units and number of links: nine bytes
   abbrev pub bytes_of_head : Issue → ℕ → ℕ → List ℕ
-  bytes_of_head issue units links = magic ++ (two (issue_number issue) ++ (g.tag ∷ units ∷ two links))
+  bytes_of_head issue units links = magic ++ (two (issue_number issue) ++ (g.KIND ∷ units ∷ two links))
 
   -- a link takes two ends, a mark and four bytes for each part
   abbrev pub link_size : ℕ
-  link_size = 3 + 4 * g.arity
+  link_size = 3 + 4 * g.PARTS
 
   -- a link: unit, unit, mark (1 in service, 0 out), and the parts of the weight
   abbrev pub link_bytes : Link W → List ℕ
-  link_bytes l = l.first ∷ l.second ∷ cond l.in_service 1 0 ∷ fours (g.nth (g.value l.weight)) g.arity
+  link_bytes l = l.first ∷ l.second ∷ cond l.in_service 1 0 ∷ fours (g.nth (g.value l.weight)) g.PARTS
 
   -- the sheet: head, codes, links
   abbrev pub sheet_of : Issue → Model W → List ℕ

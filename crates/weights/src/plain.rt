@@ -18,15 +18,15 @@ pub struct Plain {
 impl Weight for Plain {
     const KIND: u8 = 1;
 
+    ghost KIND = { plain_tag };
+
     const PARTS: usize = 1;
+
+    ghost PARTS = { 1 };
 
     ghost Value = { ℕ };
 
     ghost value = { λ w. w.conductors };
-
-    ghost tag = { plain_tag };
-
-    ghost arity = { 1 };
 
     ghost zero = { 0 };
 
@@ -49,14 +49,6 @@ impl Weight for Plain {
     ghost narrow = { first_of (Prim.search rules, Prim.grind (arith, Self.row.coded.inj)) };
 
     ghost told = { first_of (Prim.search rules, Prim.grind (arith, Self.row.coded.inj)) };
-
-    fn kind_byte() -> u8 {
-        Self::KIND
-    }
-
-    fn part_count() -> usize {
-        Self::PARTS
-    }
 
     fn nothing() -> Plain {
         Plain { conductors: 0 }

@@ -19,15 +19,15 @@ pub struct Ranked {
 impl Weight for Ranked {
     const KIND: u8 = 2;
 
+    ghost KIND = { ranked_tag };
+
     const PARTS: usize = 2;
+
+    ghost PARTS = { 2 };
 
     ghost Value = { ℕ × ℕ };
 
     ghost value = { λ w. (w.safety, w.other) };
-
-    ghost tag = { ranked_tag };
-
-    ghost arity = { 2 };
 
     ghost zero = { (0, 0) };
 
@@ -50,14 +50,6 @@ impl Weight for Ranked {
     ghost narrow = { first_of (Prim.search rules, Prim.grind (arith, Self.row.coded.inj)) };
 
     ghost told = { first_of (Prim.search rules, Prim.grind (arith, Self.row.coded.inj)) };
-
-    fn kind_byte() -> u8 {
-        Self::KIND
-    }
-
-    fn part_count() -> usize {
-        Self::PARTS
-    }
 
     fn nothing() -> Ranked {
         Ranked {

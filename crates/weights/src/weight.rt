@@ -13,18 +13,16 @@ pub trait Weight: Copy {
     // the byte that stands for the kind in a sheet; the rules name an associated constant, so no enum lists the kinds
     const KIND: u8;
 
+    ghost KIND: { ℕ };
+
     // how many parts a weight has
     const PARTS: usize;
+
+    ghost PARTS: { ℕ };
 
     ghost Value: { Type 0 };
 
     ghost value: { Self → Value };
-
-    // the kind byte, as contracts cite it
-    ghost tag: { ℕ };
-
-    // the number of parts, as contracts cite it
-    ghost arity: { ℕ };
 
     // nothing, the weight of no link
     ghost zero: { Value };
@@ -39,12 +37,6 @@ pub trait Weight: Copy {
     ghost of: { (ℕ → ℕ) → Value };
 
     ghost nth: { Value → ℕ → ℕ };
-
-    fn kind_byte() -> u8
-        ensures { result ≡ tag };
-
-    fn part_count() -> usize
-        ensures { result ≡ arity };
 
     fn nothing() -> Self
         ensures { value result ≡ zero };
@@ -70,7 +62,7 @@ pub trait Weight: Copy {
 
     ghost laws: { Laws zero plus le size };
 
-    ghost exact: { Exact arity of nth };
+    ghost exact: { Exact PARTS of nth };
 
     ghost bounded: { (x : Self) → size (value x) ≤ limit };
 

@@ -21,7 +21,7 @@ pub(crate) fn put_head<W: Weight>(pen: &mut Pen, issue: Issue, units: u8, links:
 {
     pen.put_bytes(&MAGIC);
     pen.put_bytes(&issue.number().to_le_bytes());
-    pen.put_byte(W::kind_byte());
+    pen.put_byte(W::KIND);
     pen.put_byte(units);
     pen.put_bytes(&links.to_le_bytes());
 }
@@ -58,11 +58,11 @@ pub(crate) fn put_codes(pen: &mut Pen, issue: Issue, units: &[Unit])
 
 // The parts of a weight, four bytes each.
 fn put_weight<W: Weight>(pen: &mut Pen, weight: W)
-    requires { Fits pen.old (fours (W.Weight.nth (W.Weight.value weight)) W.Weight.arity) }
+    requires { Fits pen.old (fours (W.Weight.nth (W.Weight.value weight)) W.Weight.PARTS) }
     ensures lent { pen.new.out.ghost_name ≡ pen.old.out.ghost_name }
-    ensures put { Wrote pen.old (fours (W.Weight.nth (W.Weight.value weight)) W.Weight.arity) pen.new }
+    ensures put { Wrote pen.old (fours (W.Weight.nth (W.Weight.value weight)) W.Weight.PARTS) pen.new }
 {
-    for i in 0..W::part_count() {
+    for i in 0..W::PARTS {
         pen.put_bytes(&weight.part(i).to_le_bytes());
     }
 }

@@ -39,7 +39,7 @@ fn sheet_size<W: Weight>(plan: &Plan<W>, issue: Issue) -> usize
     ensures { result ≡ length (sheet_of W.Weight issue (model_of plan.now)) }
 {
     let codes = plan.unit_count() * issue.code_size();
-    let links = plan.link_count() * (3 + 4 * W::part_count());
+    let links = plan.link_count() * (3 + 4 * W::PARTS);
     9 + codes + links
 }
 

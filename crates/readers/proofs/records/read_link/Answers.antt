@@ -14,7 +14,7 @@ returns-in_err-first-clause-reads g c = λ at count sum.
     let k = c.args.k in
     let s : Stands bs (link_place w bs k) c.enter.new.self = record { bytes = c.enter.ensures.bytes; place = c.enter.ensures.at ∙ at } in
     let f = first_read w bs k s c.enter.ensures.part count c.in_err-first.ensures in
-    stopped [] (first k) (second k ∷ mark k ∷ (number_fields k w.arity ++ (weight k ∷ []))) c.from_residual.ensures.1 tt f.0
+    stopped [] (first k) (second k ∷ mark k ∷ (number_fields k w.PARTS ++ (weight k ∷ []))) c.from_residual.ensures.1 tt f.0
 
 pub returns-in_err-second-clause-reads : goal.returns-in_err-second-clause-reads
 returns-in_err-second-clause-reads g c = λ at count sum.
@@ -24,7 +24,7 @@ returns-in_err-second-clause-reads g c = λ at count sum.
     let s : Stands bs (link_place w bs k) c.enter.new.self = record { bytes = c.enter.ensures.bytes; place = c.enter.ensures.at ∙ at } in
     let t0 = first_read w bs k s c.enter.ensures.part count c.in_ok-first.ensures in
     let f = second_read w bs k t0.1 t0.2 count t0.0.1.0 c.in_err-second.ensures in
-    stopped (first k ∷ []) (second k) (mark k ∷ (number_fields k w.arity ++ (weight k ∷ []))) c.from_residual-in_err-second.ensures.1 (t0.0.0, tt) f.0
+    stopped (first k ∷ []) (second k) (mark k ∷ (number_fields k w.PARTS ++ (weight k ∷ []))) c.from_residual-in_err-second.ensures.1 (t0.0.0, tt) f.0
 
 pub returns-in_err-in_service-clause-reads : goal.returns-in_err-in_service-clause-reads
 returns-in_err-in_service-clause-reads g c = λ at count sum.
@@ -35,7 +35,7 @@ returns-in_err-in_service-clause-reads g c = λ at count sum.
     let t0 = first_read w bs k s c.enter.ensures.part count c.in_ok-first.ensures in
     let t1 = second_read w bs k t0.1 t0.2 count t0.0.1.0 c.in_ok-second.ensures in
     let f = mark_read w bs k t1.1 t1.2 c.in_err-in_service.ensures in
-    stopped (first k ∷ second k ∷ []) (mark k) (number_fields k w.arity ++ (weight k ∷ [])) c.from_residual-in_err-in_service.ensures.1 (t0.0.0, (t1.0.0, tt)) f.0
+    stopped (first k ∷ second k ∷ []) (mark k) (number_fields k w.PARTS ++ (weight k ∷ [])) c.from_residual-in_err-in_service.ensures.1 (t0.0.0, (t1.0.0, tt)) f.0
 
 pub returns-in_err-weight-clause-reads : goal.returns-in_err-weight-clause-reads
 returns-in_err-weight-clause-reads g c = λ at count sum.
@@ -49,7 +49,7 @@ returns-in_err-weight-clause-reads g c = λ at count sum.
     let v = weight_here w bs k t2.1 t2.2 sum c.in_err-weight.ensures.reads in
     let d = c.in_err-weight.field-0.0 in
     broke c.from_residual-in_err-weight.ensures.1
-    (in_right w bs (first k ∷ second k ∷ mark k ∷ []) (number_fields k w.arity ++ (weight k ∷ [])) d (t0.0.0, (t1.0.0, (t2.0.0, tt))) v.taken)
+    (in_right w bs (first k ∷ second k ∷ mark k ∷ []) (number_fields k w.PARTS ++ (weight k ∷ [])) d (t0.0.0, (t1.0.0, (t2.0.0, tt))) v.taken)
 
 pub returns-clause-reads : goal.returns-clause-reads
 returns-clause-reads g c = λ at count sum.

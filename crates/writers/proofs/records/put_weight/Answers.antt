@@ -7,7 +7,7 @@ pub put_bytes-requires : goal.put_bytes-requires
 put_bytes-requires g c =
     let f = g.W.Weight.nth (g.W.Weight.value c.args.weight) in
     let some = length_fours f c.loop-i.i in
-    let all = length_fours f g.W.Weight.arity in
+    let all = length_fours f g.W.Weight.PARTS in
     omega arith
 
 pub loop-i-preserved : goal.loop-i-preserved
