@@ -61,7 +61,7 @@ impl<'t, 'm, 'e, W: Weight> Contraction<'t, 'm, 'e, W> {
         }
     }
 
-    // Rounds while work goes on: each merges a pair where the table is that of a plan, so that as many as there are units are enough.
+    // Round after round, while work goes on.
     pub fn run<Q: PriorityQueue<Weight = W>>(&mut self, queue: &mut Q, mut best: W) -> W
         requires sound { Q.PriorityQueue.sound queue.old }
         requires scans { self.old.scans ≡ 0 }
@@ -71,6 +71,7 @@ impl<'t, 'm, 'e, W: Weight> Contraction<'t, 'm, 'e, W> {
         ensures unscanned { self.new.scans ≡ 0 → queue.new ≡ queue.old }
         ensures scanned { 0 < self.new.scans → Empty (Q.PriorityQueue.key queue.new) }
     {
+        // As many rounds as units are enough: each merges a pair, where the table is that of a plan.
         for _round in 0..self.groups.units() {
             if !self.goes_on(best) {
                 break;
