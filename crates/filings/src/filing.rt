@@ -18,6 +18,8 @@ use refusals::Refusal;
 use sheets::fault::Fault;
 use weights::weight::Weight;
 
+// That kept marks are those of a weakest division stays a named condition, `Filed`: tried as a ghost field, which takes only a
+// fact with one proof, and a division is shown by any marked and any unmarked unit.
 #[derive(Drop)]
 pub struct Filing<'a, W: Weight> {
     plan: Plan<'a, W>,
