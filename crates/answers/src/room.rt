@@ -1,22 +1,18 @@
 // What weakest and trial ask of the memory that they are lent.
-ghost use Rattle.std.specs.Prelude.{◌≡◌, ℕ, ◌*◌, ◌≤◌, true, false, length, MatchResult};
+ghost use Rattle.std.specs.Prelude.{◌≡◌, ℕ, ◌*◌, ◌≤◌, true, false, MatchResult};
 ghost use Rattle.answers.specs.Answered.{enough};
 
-use cuts::entry::Entry;
-use refusals::{Refusal, memory};
+use refusals::Refusal;
 
 // Whether the lent memory suffices for n units: 17 under one mark and one entry for each, or n × n weights.
-pub fn check_room<W>(
-    n: usize,
-    marks: &[u8],
-    entries: &[Entry],
-    weights: &[W],
-) -> Result<(), Refusal>
+// Of sizes and not of slices, since this is asked of callers that know no more; so the check of lent memory is not called.
+pub fn check_room(n: usize, marks: usize, entries: usize, weights: usize) -> Result<(), Refusal>
     requires { n ≤ 64 }
-    ensures room { MatchResult result (λ _. (n ≤ length marks.now) × (n ≤ length entries.now) × (n * n ≤ length weights.now)) (λ e. e ≡ Refusal.ShortMemory) }
-    ensures enough { MatchResult result (λ _. enough n (length marks.now) (length entries.now) (length weights.now) ≡ true) (λ _. enough n (length marks.now) (length entries.now) (length weights.now) ≡ false) }
+    ensures room { MatchResult result (λ _. (n ≤ marks) × (n ≤ entries) × (n * n ≤ weights)) (λ e. e ≡ Refusal.ShortMemory) }
+    ensures enough { MatchResult result (λ _. enough n marks entries weights ≡ true) (λ _. enough n marks entries weights ≡ false) }
 {
-    memory::enough(marks, n)?;
-    memory::enough(entries, n)?;
-    memory::enough(weights, n * n)
+    if marks < n || entries < n || weights < n * n {
+        return Err(Refusal::ShortMemory);
+    }
+    Ok(())
 }

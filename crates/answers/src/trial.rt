@@ -72,6 +72,6 @@ pub fn trial<W: Weight, Q: PriorityQueue<Weight = W>>(
     if link >= plan.link_count() {
         return Err(Refusal::NoSuchLink);
     }
-    check_room(n, marks, entries, table)?;
+    check_room(n, marks.len(), entries.len(), table.len())?;
     Ok(solve_without(filing, link, queue, marks, entries, table))
 }

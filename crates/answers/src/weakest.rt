@@ -65,7 +65,7 @@ pub fn weakest<W: Weight, Q: PriorityQueue<Weight = W>>(
     if n < 2 {
         return Err(Refusal::NoDivision);
     }
-    check_room(n, marks, entries, table)?;
+    check_room(n, marks.len(), entries.len(), table.len())?;
     if filing.kept().is_kept() {
         return Ok(answer_kept(filing, marks));
     }

@@ -1,6 +1,7 @@
 // The weights and the groups of the work, as one view that the tests of a pair and a scan read.
 ghost use Rattle.std.specs.Prelude.{◌*◌, ◌≤◌, length};
 
+pub mod lightest;
 pub mod reads;
 
 use crate::groups::Groups;

@@ -10,7 +10,6 @@ ghost use Rattle.tables.specs.Meaning.{Holds, Tracks};
 use crate::contraction::Contraction;
 use crate::marking::{mark_group, turn_over};
 use crate::progress::Progress;
-use tables::table::Table;
 use weights::weight::Weight;
 
 impl<'t, 'm, 'e, W: Weight> Contraction<'t, 'm, 'e, W> {
@@ -20,10 +19,7 @@ impl<'t, 'm, 'e, W: Weight> Contraction<'t, 'm, 'e, W> {
         ensures only { OnlyMarks self.old self.new }
         ensures at { (n : ℕ) (ls : List (Link W.Weight.Value)) → Sound (kind_of W.Weight) n ls → Holds W.Weight n ls [] self.old.weights.now → Tracks n [] self.old.groups → self.old.mergers ≡ 0 → self.old.scans ≡ 0 → (p : Point) × IsAt W.Weight n ls p self.new result × Work (kind_of W.Weight) n ls p }
     {
-        let units = self.groups.units();
-        // borrowed by a name first, as what a table leaves of a field that is lent to it is not known
-        let weights = &mut *self.weights;
-        let unit = Table::over(weights, units).lightest();
+        let unit = self.graph().lightest();
         mark_group(&self.groups, unit, self.marks);
         self.graph().entry(unit, unit)
     }

@@ -2,8 +2,6 @@
 ghost use Rattle.std.specs.Prelude.{◌≡◌, ℕ, ◌+◌, ◌*◌, ◌<◌, ◌≤◌, [], length, drop, slice_index_or, slice_set};
 ghost use Rattle.tables.specs.Meaning.{entry_of, value_at, HoldsIn, SameMemory};
 
-use crate::graph::Graph;
-use crate::groups::Groups;
 use crate::table::Table;
 use weights::weight::Weight;
 
@@ -24,15 +22,6 @@ impl<'a, W: Weight> Table<'a, W> {
         ensures { result ≡ self.now.units }
     {
         self.units
-    }
-
-    // The table with the groups whose weights it holds.
-    pub fn graph<'g>(&'g self, groups: &'g Groups) -> Graph<'g, W>
-        requires { groups.now.units ≡ self.now.units }
-        ensures weights { result.weights.now ≡ self.now.weights.now }
-        ensures groups { result.groups.now ≡ groups.now }
-    {
-        Graph::over(self.weights, groups)
     }
 
     // The entry of a row and a column.

@@ -1,9 +1,8 @@
-// A link fills the table, and the lightest unit is read from it.
-ghost use Rattle.std.specs.Prelude.{◌≡◌, ◌+◌, ◌*◌, ◌<◌, ◌≤◌, true, not, List, [], ◌∷◌, ◌++◌, drop, ◌≢◌};
+// A link fills the table.
+ghost use Rattle.std.specs.Prelude.{◌≡◌, ◌+◌, ◌*◌, ◌<◌, ◌≤◌, true, List, [], ◌∷◌, ◌++◌, drop, ◌≢◌};
 ghost use Rattle.weights.specs.Laws.{limit};
 ghost use Rattle.cuts.specs.Kinds.{kind_of};
 ghost use Rattle.cuts.specs.Links.{Link, Sound};
-ghost use Rattle.cuts.specs.Records.{Lightest};
 ghost use Rattle.tables.specs.Meaning.{entry_of, HoldsIn, SameMemory};
 
 use crate::table::Table;
@@ -33,30 +32,5 @@ impl<'a, W: Weight> Table<'a, W> {
         ensures { W.Weight.size (entry_of W.Weight self.now row column) + W.Weight.size (W.Weight.value weight) ≤ limit → W.Weight.value result ≡ W.Weight.plus (entry_of W.Weight self.now row column) (W.Weight.value weight) }
     {
         add(self.entry(row, column), weight)
-    }
-
-    // The lightest unit, the lowest number among equals.
-    pub fn lightest(&self) -> usize
-        requires { 0 < self.now.units }
-        ensures unit { result < self.now.units }
-        ensures lightest { (ls : List (Link W.Weight.Value)) → HoldsIn W.Weight ls [] self.now → Lightest (kind_of W.Weight) self.now.units ls result }
-    {
-        let mut unit = 0;
-        // The units' numbers are what is gone over: they are rows and columns of the table.
-        for u in 1..self.units {
-            if self.is_lighter(u, unit) {
-                unit = u;
-            }
-        }
-        unit
-    }
-
-    // Whether the degree of `a` is strictly less than that of `b`.
-    fn is_lighter(&self, a: usize, b: usize) -> bool
-        requires first { a < self.now.units }
-        requires second { b < self.now.units }
-        ensures { result ≡ not (W.Weight.le (entry_of W.Weight self.now b b) (entry_of W.Weight self.now a a)) }
-    {
-        !self.entry(b, b).at_most(self.entry(a, a))
     }
 }
