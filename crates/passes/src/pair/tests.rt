@@ -1,0 +1,99 @@
+// The tests of a pair of groups.
+ghost use Rattle.std.specs.Prelude.{◌≡◌, ◌<◌, Decides};
+ghost use Rattle.cuts.specs.declared.ground.Ground.TheVariants.{Triangle, Neighbourhood};
+ghost use Rattle.cuts.specs.Kinds.{kind_of, lesser as lighter};
+ghost use Rattle.cuts.specs.Tests.{Meets};
+ghost use Rattle.passes.specs.Passed.{Apex, Judged};
+ghost use Rattle.passes.specs.Pairs.{InEachPlan};
+
+use crate::pair::Pair;
+use crate::pairs::{is_unbalanced, within_twice};
+use cuts::ground::Ground;
+use tables::graph::Graph;
+use weights::weight::{Weight, add};
+
+// The lighter of two weights.
+fn lesser<W: Weight>(a: W, b: W) -> W
+    ensures { W.Weight.value result ≡ lighter (kind_of W.Weight) (W.Weight.value a) (W.Weight.value b) }
+{
+    if a.at_most(b) { a } else { b }
+}
+
+impl<'p, 'g, W: Weight> Pair<'p, 'g, W> {
+    // The pair of two groups, by number.
+    pub fn of(graph: &'p Graph<'g, W>, u: usize, v: usize) -> Pair<'p, 'g, W>
+        requires u { u < graph.now.groups.now.units }
+        requires v { v < graph.now.groups.now.units }
+        ensures graph { result.graph.now ≡ graph.now }
+        ensures u { result.u ≡ u }
+        ensures v { result.v ≡ v }
+    {
+        Pair { graph, u, v }
+    }
+
+    // Whether a group makes a triangle of the pair: it is a third one, and each degree is at most twice
+    // what joins it to the other two.
+    fn is_apex(&self, apex: usize) -> bool
+        requires { apex < self.now.graph.now.groups.now.units }
+        ensures { InEachPlan W.Weight self.now (λ n ls es u v. Decides result (Apex (kind_of W.Weight) n ls es u v apex)) }
+    {
+        let joint = self.graph.entry(self.u, self.v);
+        self.graph.is_third(self.u, self.v, apex)
+            && within_twice(
+                self.graph.entry(self.u, self.u),
+                add(joint, self.graph.entry(self.u, apex)),
+            )
+            && within_twice(
+                self.graph.entry(self.v, self.v),
+                add(joint, self.graph.entry(self.v, apex)),
+            )
+    }
+
+    // Triangle: some third group makes one of the pair.
+    pub fn is_triangle(&self) -> bool
+        ensures { InEachPlan W.Weight self.now (λ n ls es u v. (best : W.Weight.Value) → Decides result (Meets (kind_of W.Weight) n ls es best u v Triangle)) }
+    {
+        (0..self.graph.units()).any(|apex| self.is_apex(apex))
+    }
+
+    // Neighbourhood: the joint weight, and for each third group the lesser of what joins it to the two, come to best.
+    pub fn is_neighbourhood(&self, best: W) -> bool
+        ensures { InEachPlan W.Weight self.now (λ n ls es u v. Decides result (Meets (kind_of W.Weight) n ls es (W.Weight.value best) u v Neighbourhood)) }
+    {
+        let mut sum = self.graph.entry(self.u, self.v);
+        // The groups' numbers are what is gone over: they are rows and columns of the table.
+        for w in 0..self.graph.units() {
+            if self.graph.is_third(self.u, self.v, w) {
+                sum = add(
+                    sum,
+                    lesser(self.graph.entry(self.u, w), self.graph.entry(self.v, w)),
+                );
+            }
+        }
+        best.at_most(sum)
+    }
+
+    // The lowest ground on which the pair may be merged, if any.
+    pub fn ground(&self, best: W) -> Option<Ground>
+        ensures { InEachPlan W.Weight self.now (λ n ls es u v. Judged (kind_of W.Weight) n ls es (W.Weight.value best) u v result) }
+    {
+        let joint = self.graph.entry(self.u, self.v);
+        if best.at_most(joint) {
+            return Some(Ground::Heavy);
+        }
+        if is_unbalanced(
+            joint,
+            self.graph.entry(self.u, self.u),
+            self.graph.entry(self.v, self.v),
+        ) {
+            return Some(Ground::Unbalanced);
+        }
+        if self.is_triangle() {
+            return Some(Ground::Triangle);
+        }
+        if self.is_neighbourhood(best) {
+            return Some(Ground::Neighbourhood);
+        }
+        None
+    }
+}
