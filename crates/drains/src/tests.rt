@@ -27,7 +27,7 @@ fn plain(conductors: u32) -> Result<Plain, Refusal> {
 
 // The number of a refusal.
 fn refused<T: Drop>(reply: Result<T, Refusal>) -> Option<u8> {
-    reply.err().map(|why| why.number())
+    reply.err().map(u8::from)
 }
 
 fn fill<Q: PriorityQueue<Weight = Plain>>(queue: &mut Q) -> Result<(), Fail>

@@ -15,12 +15,13 @@ use weights::weight::Weight;
 // A queue over lent entries, of which the first `count` wait, in the order of a binary heap. `places`
 // says at which place the entry of a waiting group stands; a group waits if the entry there is its own.
 // What the other places hold is unsettled, and places past the 64th are never touched. No heap: the entries are
-// lent, and their number stands beside them; std's heap owns its memory and cannot raise an entry.
+// lent, and their number stands beside them; std's heap owns its memory and cannot raise an entry. The places of
+// all groups lie in fixed memory. Its condition has a name, as each queue's.
 #[derive(Drop)]
 pub struct HeapQueue<'a, W> {
     entries: &'a mut [HeapEntry<W>],
     count: usize,
-    places: [usize; 64],
+    places: [usize; GROUPS],
 }
 
 impl<'a, W: Weight> HeapQueue<'a, W> {
@@ -41,7 +42,7 @@ impl<'a, W: Weight> HeapQueue<'a, W> {
         HeapQueue {
             entries,
             count: 0,
-            places: [0; 64],
+            places: [0; GROUPS],
         }
     }
 

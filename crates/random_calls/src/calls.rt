@@ -36,7 +36,7 @@ pub enum Call {
 
 impl From<Refusal> for Trouble {
     fn from(why: Refusal) -> Trouble {
-        Trouble::Refused(why.number())
+        Trouble::Refused(u8::from(why))
     }
 }
 

@@ -76,7 +76,7 @@ impl<'a> Case<'a> {
         let reply = write(plan, self.issue, bytes.as_mut_slice());
         Ok(match (reply, self.refusal(room)) {
             (Ok(size), None) => size == sheet.len() && holds(bytes.as_slice(), sheet),
-            (Err(why), Some(number)) => why.number() == number && holds(bytes.as_slice(), &[]),
+            (Err(why), Some(number)) => u8::from(why) == number && holds(bytes.as_slice(), &[]),
             _ => false,
         })
     }
