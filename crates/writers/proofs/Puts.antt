@@ -3,7 +3,8 @@ use Rattle.std.proofs.Common.{◌≡◌, ℕ, ◌+◌, ◌-◌, ◌≤◌, List,
 use borrow.Rule.Slice.PartMut.{put_mid}
 use Rattle.std.proofs.lemmas.List.{append_assoc, length-append, drop-drop}
 use Rattle.std.proofs.lemmas.Slice.{take-put_mid, drop-put_mid}
-use Rattle.writers.specs.Fields.{Put}
+use Rattle.writers.specs.declared.pen.Pen.{Pen}
+use Rattle.writers.specs.Fields.{Put, Wrote}
 
 -- a part of the bytes was written over
 pub put_part : (xs ys zs : List ℕ) (at : ℕ) → zs ≡ ys → at + length ys ≤ length xs → length (put_mid at (at + length ys - at) xs zs) ≡ length xs → Put xs at ys (at + length ys) (put_mid at (at + length ys - at) xs zs)
@@ -25,7 +26,7 @@ further m n xs ys h e =
     rw (← z) (cc)
 
 -- a field and then another one
-pub put_both : {xs ys zs f q : List ℕ} {at m n : ℕ} → Put xs at f m ys → Put ys m q n zs → Put xs at (f ++ q) n zs
+put_both : {xs ys zs f q : List ℕ} {at m n : ℕ} → Put xs at f m ys → Put ys m q n zs → Put xs at (f ++ q) n zs
 put_both {xs} {ys} {zs} {f} {q} {at} {m} {n} a b =
     let l = length-append f q in
     record {
@@ -34,3 +35,10 @@ put_both {xs} {ys} {zs} {f} {q} {at} {m} {n} a b =
       front = b.front ∙ (ap (λ t. t ++ q) a.front ∙ append_assoc (take at xs) f q);
       rest = b.rest ∙ further m n ys xs (omega arith) a.rest;
     }
+
+-- the pen puts a field and then another one
+pub wrote_both : {p q r : Pen} {f h : List ℕ} → Wrote p f q → Wrote q h r → Wrote p (f ++ h) r
+wrote_both a b = record {
+  lent = b.lent ∙ a.lent;
+  put = put_both a.put b.put;
+}

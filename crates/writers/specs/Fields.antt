@@ -17,6 +17,7 @@ pub record Put (before : List ℕ) (at : ℕ) (field : List ℕ) (next : ℕ) (a
 abbrev pub Fits : Pen → List ℕ → Type 0
 Fits pen field = Room pen.out.now pen.at field
 
--- the pen put a field, and stands after it
-abbrev pub Wrote : Pen → List ℕ → Pen → Type 0
-Wrote before field after = Put before.out.now before.at field after.at after.out.now
+-- the pen put a field into the bytes that were lent to it, and stands after it
+pub record Wrote (before : Pen) (field : List ℕ) (after : Pen) : Type 0 where
+  pub lent : after.out.ghost_name ≡ before.out.ghost_name
+  pub put : Put before.out.now before.at field after.at after.out.now

@@ -1,7 +1,7 @@
 // Writes fields into lent bytes, one after the other.
 ghost use Rattle.std.specs.Prelude.{◌≡◌, ◌≤◌, [], ◌∷◌, length};
 
-// The lent bytes, and the index of the next field. Each field that is put moves the pen on.
+// The lent bytes (there is no heap), and the index of the next field. Each field that is put moves the pen on.
 #[derive(Drop)]
 pub(crate) struct Pen<'a> {
     out: &'a mut [u8],
@@ -31,8 +31,7 @@ impl<'a> Pen<'a> {
     // A byte.
     pub(crate) fn put_byte(&mut self, byte: u8)
         requires { Fits self.old (byte ∷ []) }
-        ensures lent { self.new.out.ghost_name ≡ self.old.out.ghost_name }
-        ensures put { Wrote self.old (byte ∷ []) self.new }
+        ensures { Wrote self.old (byte ∷ []) self.new }
     {
         self.out[self.at] = byte;
         self.at += 1;
@@ -41,8 +40,7 @@ impl<'a> Pen<'a> {
     // Bytes as they stand.
     pub(crate) fn put_bytes(&mut self, bytes: &[u8])
         requires { Fits self.old bytes.now }
-        ensures lent { self.new.out.ghost_name ≡ self.old.out.ghost_name }
-        ensures put { Wrote self.old bytes.now self.new }
+        ensures { Wrote self.old bytes.now self.new }
     {
         let next = self.at + bytes.len();
         self.out[self.at..next].copy_from_slice(bytes);

@@ -16,8 +16,7 @@ use weights::weight::Weight;
 // The head: issue, kind, and how many units and links follow.
 pub(crate) fn put_head<W: Weight>(pen: &mut Pen, issue: Issue, units: u8, links: u16)
     requires { Fits pen.old (bytes_of_head W.Weight issue units links) }
-    ensures lent { pen.new.out.ghost_name ≡ pen.old.out.ghost_name }
-    ensures put { Wrote pen.old (bytes_of_head W.Weight issue units links) pen.new }
+    ensures { Wrote pen.old (bytes_of_head W.Weight issue units links) pen.new }
 {
     pen.put_bytes(&MAGIC);
     pen.put_bytes(&issue.number().to_le_bytes());
@@ -36,8 +35,7 @@ fn is_closed(issue: Issue, code: FaultCode) -> bool
 // A code, closed by a zero byte where it is shorter than its field.
 fn put_code(pen: &mut Pen, issue: Issue, code: FaultCode)
     requires { Fits pen.old (code_field issue (bytes_of code)) }
-    ensures lent { pen.new.out.ghost_name ≡ pen.old.out.ghost_name }
-    ensures put { Wrote pen.old (code_field issue (bytes_of code)) pen.new }
+    ensures { Wrote pen.old (code_field issue (bytes_of code)) pen.new }
 {
     pen.put_bytes(code.text());
     if is_closed(issue, code) {
@@ -48,8 +46,7 @@ fn put_code(pen: &mut Pen, issue: Issue, code: FaultCode)
 // The codes of the units.
 pub(crate) fn put_codes(pen: &mut Pen, issue: Issue, units: &[Unit])
     requires { Fits pen.old (flat_map (code_field issue) (map code_of units.now)) }
-    ensures lent { pen.new.out.ghost_name ≡ pen.old.out.ghost_name }
-    ensures put { Wrote pen.old (flat_map (code_field issue) (map code_of units.now)) pen.new }
+    ensures { Wrote pen.old (flat_map (code_field issue) (map code_of units.now)) pen.new }
 {
     for unit in units {
         put_code(pen, issue, unit.code);
@@ -59,9 +56,9 @@ pub(crate) fn put_codes(pen: &mut Pen, issue: Issue, units: &[Unit])
 // The parts of a weight, four bytes each.
 fn put_weight<W: Weight>(pen: &mut Pen, weight: W)
     requires { Fits pen.old (fours (W.Weight.nth (W.Weight.value weight)) W.Weight.PARTS) }
-    ensures lent { pen.new.out.ghost_name ≡ pen.old.out.ghost_name }
-    ensures put { Wrote pen.old (fours (W.Weight.nth (W.Weight.value weight)) W.Weight.PARTS) pen.new }
+    ensures { Wrote pen.old (fours (W.Weight.nth (W.Weight.value weight)) W.Weight.PARTS) pen.new }
 {
+    // the range numbers the parts, which a weight gives one at a time
     for i in 0..W::PARTS {
         pen.put_bytes(&weight.part(i).to_le_bytes());
     }
@@ -70,8 +67,7 @@ fn put_weight<W: Weight>(pen: &mut Pen, weight: W)
 // A link: unit, unit, mark (1 in service, 0 out) and weight.
 fn put_link<W: Weight>(pen: &mut Pen, link: Link<W>)
     requires { Fits pen.old (link_bytes W.Weight link) }
-    ensures lent { pen.new.out.ghost_name ≡ pen.old.out.ghost_name }
-    ensures put { Wrote pen.old (link_bytes W.Weight link) pen.new }
+    ensures { Wrote pen.old (link_bytes W.Weight link) pen.new }
 {
     pen.put_byte(link.first);
     pen.put_byte(link.second);
@@ -82,8 +78,7 @@ fn put_link<W: Weight>(pen: &mut Pen, link: Link<W>)
 // The links.
 pub(crate) fn put_links<W: Weight>(pen: &mut Pen, links: &[Link<W>])
     requires { Fits pen.old (flat_map (link_bytes W.Weight) links.now) }
-    ensures lent { pen.new.out.ghost_name ≡ pen.old.out.ghost_name }
-    ensures put { Wrote pen.old (flat_map (link_bytes W.Weight) links.now) pen.new }
+    ensures { Wrote pen.old (flat_map (link_bytes W.Weight) links.now) pen.new }
 {
     for link in links {
         put_link(pen, *link);

@@ -1,4 +1,3 @@
-use Rattle.std.proofs.Common.{rules}
 use Rattle.std.proofs.lemmas.List.{take_all}
 use Rattle.std.proofs.lemmas.List.Folds.{flat_map-map}
 use Rattle.plans.specs.Model.{code_of}
@@ -8,13 +7,10 @@ use Rattle.writers.proofs.records.put_codes.Goals as goal
 
 pub put_code-requires : goal.put_code-requires
 put_code-requires c =
-    room_next (λ u. code_field c.args.issue (code_of u)) c.args.units.now c.loop-unit.unit-index c.unit-item.is c.loop-unit-test.true c.loop-unit.invariant.put (rw flat_map-map at c.requires)
+    room_next (λ u. code_field c.args.issue (code_of u)) c.args.units.now c.loop-unit.unit-index c.unit-item.is c.loop-unit-test.true c.loop-unit.invariant (rw flat_map-map at c.requires)
 
 pub loop-unit-preserved : goal.loop-unit-preserved
-loop-unit-preserved c = record {
-  lent = search rules;
-  put = put_next (λ u. code_field c.args.issue (code_of u)) c.args.units.now c.loop-unit.unit-index c.unit-item.is c.loop-unit-test.true c.loop-unit.invariant.put c.put_code.ensures.put;
-}
+loop-unit-preserved c = put_next (λ u. code_field c.args.issue (code_of u)) c.args.units.now c.loop-unit.unit-index c.unit-item.is c.loop-unit-test.true c.loop-unit.invariant c.put_code.ensures
 
-pub returns-clause-put : goal.returns-clause-put
-returns-clause-put c = rw flat_map-map (rw (take_all c.loop-unit.unit-index c.args.units.now c.loop-unit-test.false) at c.loop-unit.invariant.put)
+pub returns : goal.returns
+returns c = rw flat_map-map (rw (take_all c.loop-unit.unit-index c.args.units.now c.loop-unit-test.false) at c.loop-unit.invariant)

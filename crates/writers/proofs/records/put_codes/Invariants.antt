@@ -1,4 +1,4 @@
-use Rattle.std.proofs.Common.{◌≡◌, take}
+use Rattle.std.proofs.Common.{take}
 use Rattle.std.specs.List.{flat_map}
 use Rattle.plans.specs.Model.{code_of}
 use Rattle.sheets.specs.Format.{code_field}
@@ -6,7 +6,4 @@ use Rattle.writers.specs.Fields.{Wrote}
 use Rattle.writers.proofs.records.put_codes.Given as goal
 
 abbrev pub invariant-loop-unit : goal.invariant-loop-unit
-invariant-loop-unit l = record {
-  lent : l.pen.out.ghost_name ≡ l.initial.pen.out.ghost_name;
-  put : Wrote l.initial.pen (flat_map (λ u. code_field l.issue (code_of u)) (take l.unit-index l.units)) l.pen;
-}
+invariant-loop-unit l = Wrote l.initial.pen (flat_map (λ u. code_field l.issue (code_of u)) (take l.unit-index l.units)) l.pen

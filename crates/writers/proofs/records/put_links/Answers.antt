@@ -1,14 +1,10 @@
-use Rattle.std.proofs.Common.{rules}
 use Rattle.sheets.specs.Format.{link_bytes}
 use Rattle.writers.proofs.Steps.{room_next, put_next}
 use Rattle.writers.proofs.records.put_links.Goals as goal
 
 pub put_link-requires : goal.put_link-requires
 put_link-requires g c =
-    room_next (link_bytes g.W.Weight) c.args.links.now c.loop-link.link-index c.link-item.is c.loop-link-test.true c.loop-link.invariant.put c.requires
+    room_next (link_bytes g.W.Weight) c.args.links.now c.loop-link.link-index c.link-item.is c.loop-link-test.true c.loop-link.invariant c.requires
 
 pub loop-link-preserved : goal.loop-link-preserved
-loop-link-preserved g c = record {
-  lent = search rules;
-  put = put_next (link_bytes g.W.Weight) c.args.links.now c.loop-link.link-index c.link-item.is c.loop-link-test.true c.loop-link.invariant.put c.put_link.ensures.put;
-}
+loop-link-preserved g c = put_next (link_bytes g.W.Weight) c.args.links.now c.loop-link.link-index c.link-item.is c.loop-link-test.true c.loop-link.invariant c.put_link.ensures

@@ -1,17 +1,15 @@
-use Rattle.std.proofs.Common.{rules, add-one, arith}
+use Rattle.std.proofs.Common.{add-one, arith}
 use Rattle.sheets.proofs.Seen.{length_fours}
-use Rattle.writers.proofs.Puts.{put_both}
+use Rattle.writers.proofs.Puts.{wrote_both}
 use Rattle.writers.proofs.records.put_weight.Goals as goal
 
 pub put_bytes-requires : goal.put_bytes-requires
 put_bytes-requires g c =
     let f = g.W.Weight.nth (g.W.Weight.value c.args.weight) in
+    let put = c.loop-i.invariant.put in
     let some = length_fours f c.loop-i.i in
     let all = length_fours f g.W.Weight.PARTS in
     omega arith
 
 pub loop-i-preserved : goal.loop-i-preserved
-loop-i-preserved g c = record {
-  lent = search rules;
-  put = rw add-one (put_both c.loop-i.invariant.put (rw (c.to_le_bytes.ensures, c.part.ensures) at c.put_bytes.ensures.put));
-}
+loop-i-preserved g c = rw add-one (wrote_both c.loop-i.invariant (rw (c.to_le_bytes.ensures, c.part.ensures) at c.put_bytes.ensures))

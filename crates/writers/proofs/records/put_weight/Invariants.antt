@@ -1,10 +1,6 @@
-use Rattle.std.proofs.Common.{◌≡◌}
 use Rattle.sheets.specs.Format.{fours}
 use Rattle.writers.specs.Fields.{Wrote}
 use Rattle.writers.proofs.records.put_weight.Given as goal
 
 abbrev pub invariant-loop-i : goal.invariant-loop-i
-invariant-loop-i g l = record {
-  lent : l.pen.out.ghost_name ≡ l.initial.pen.out.ghost_name;
-  put : Wrote l.initial.pen (fours (g.W.Weight.nth (g.W.Weight.value l.weight)) l.i) l.pen;
-}
+invariant-loop-i g l = Wrote l.initial.pen (fours (g.W.Weight.nth (g.W.Weight.value l.weight)) l.i) l.pen
