@@ -8,7 +8,6 @@ ghost use Rattle.writers.specs.Fields.{Put, Room};
 ghost use Rattle.writers.specs.Written.{Fitting, Refusing, Written};
 
 use crate::pen::Pen;
-use crate::records::{put_codes, put_head, put_links};
 use plans::plan::{Plan, Unit};
 use refusals::Refusal;
 use refusals::memory::enough;
@@ -49,14 +48,9 @@ fn put_sheet<W: Weight>(out: &mut [u8], plan: &Plan<W>, issue: Issue) -> usize
     ensures { Put out.old 0 (sheet_of W.Weight issue (model_of plan.now)) result out.new }
 {
     let mut pen = Pen::over(out);
-    put_head::<W>(
-        &mut pen,
-        issue,
-        plan.unit_count() as u8,
-        plan.link_count() as u16,
-    );
-    put_codes(&mut pen, issue, plan.units());
-    put_links(&mut pen, plan.links());
+    pen.put_head::<W>(issue, plan.unit_count() as u8, plan.link_count() as u16);
+    pen.put_codes(issue, plan.units());
+    pen.put_links(plan.links());
     pen.place()
 }
 

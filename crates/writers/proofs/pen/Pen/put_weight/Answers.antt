@@ -1,7 +1,7 @@
 use Rattle.std.proofs.Common.{add-one, arith}
 use Rattle.sheets.proofs.Seen.{length_fours}
 use Rattle.writers.proofs.Puts.{wrote_both}
-use Rattle.writers.proofs.records.put_weight.Goals as goal
+use Rattle.writers.proofs.pen.Pen.put_weight.Goals as goal
 
 pub put_bytes-requires : goal.put_bytes-requires
 put_bytes-requires g c =

@@ -1,6 +1,6 @@
 use Rattle.sheets.specs.Format.{link_bytes}
 use Rattle.writers.proofs.Steps.{room_next, put_next}
-use Rattle.writers.proofs.records.put_links.Goals as goal
+use Rattle.writers.proofs.pen.Pen.put_links.Goals as goal
 
 pub put_link-requires : goal.put_link-requires
 put_link-requires g c =

@@ -1,5 +1,5 @@
 use Rattle.writers.proofs.Puts.{wrote_both}
-use Rattle.writers.proofs.records.put_head.Goals as goal
+use Rattle.writers.proofs.pen.Pen.put_head.Goals as goal
 
 pub returns : goal.returns
 returns g c =

@@ -1,6 +1,6 @@
 use Rattle.std.proofs.Common.{rules, ◌≡◌, cond}
 use Rattle.writers.proofs.Puts.{wrote_both}
-use Rattle.writers.proofs.records.put_link.Goals as goal
+use Rattle.writers.proofs.pen.Pen.put_link.Goals as goal
 
 pub returns : goal.returns
 returns g c =

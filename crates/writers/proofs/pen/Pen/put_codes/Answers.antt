@@ -3,7 +3,7 @@ use Rattle.std.proofs.lemmas.List.Folds.{flat_map-map}
 use Rattle.plans.specs.Model.{code_of}
 use Rattle.sheets.specs.Format.{code_field}
 use Rattle.writers.proofs.Steps.{room_next, put_next}
-use Rattle.writers.proofs.records.put_codes.Goals as goal
+use Rattle.writers.proofs.pen.Pen.put_codes.Goals as goal
 
 pub put_code-requires : goal.put_code-requires
 put_code-requires c =
