@@ -6,7 +6,7 @@ ghost use Rattle.plans.specs.Calls.{most_total};
 ghost use Rattle.plans.specs.Marks.{Shows};
 ghost use Rattle.plans.specs.Model.{total_of};
 ghost use Rattle.plans.specs.Sound.{Joins};
-ghost use Rattle.tables.specs.Meaning.{HoldsIn};
+ghost use Rattle.tables.specs.Meaning.{HoldsIn, SameMemory};
 
 use plans::plan::Link;
 use tables::table::Table;
@@ -28,8 +28,7 @@ pub fn copy_marks<W: Weight>(links: &[Link<W>], marks: &mut [u8])
 pub fn fill<W: Weight>(table: &mut Table<W>, links: &[Link<W>], marks: &[u8])
     requires marks { length links.now ≤ length marks.now }
     requires ends { AllWithin (Joins W.Weight table.old.units) links.now 0 (length links.now) }
-    ensures units { table.new.units ≡ table.old.units }
-    ensures memory { table.new.weights.ghost_name ≡ table.old.weights.ghost_name }
+    ensures memory { SameMemory table.old table.new }
     ensures holds { total_of W.Weight links.now ≤ most_total → HoldsIn W.Weight (served W.Weight marks.now links.now) [] table.new }
     ensures rest { drop (table.old.units * table.old.units) table.new.weights.now ≡ drop (table.old.units * table.old.units) table.old.weights.now }
 {

@@ -5,7 +5,7 @@ ghost use Rattle.fills.specs.Served.{served};
 ghost use Rattle.plans.specs.Calls.{most_total};
 ghost use Rattle.plans.specs.Model.{total_of};
 ghost use Rattle.plans.specs.Sound.{Joins};
-ghost use Rattle.tables.specs.Meaning.{HoldsIn};
+ghost use Rattle.tables.specs.Meaning.{HoldsIn, SameMemory};
 
 use crate::fill::fill;
 use plans::plan::Link;
@@ -34,16 +34,11 @@ impl Drop for MarkGuard<'_> {
 }
 
 impl<'a> MarkGuard<'a> {
-    // Fills the weight table by the marks as they stand now.
-    fn fill<W: Weight>(&self, table: &mut Table<W>, links: &[Link<W>])
-        requires marks { length links.now ≤ length self.now.marks.now }
-        requires ends { AllWithin (Joins W.Weight table.old.units) links.now 0 (length links.now) }
-        ensures units { table.new.units ≡ table.old.units }
-        ensures memory { table.new.weights.ghost_name ≡ table.old.weights.ghost_name }
-        ensures holds { total_of W.Weight links.now ≤ most_total → HoldsIn W.Weight (served W.Weight self.entry.now.marks.now links.now) [] table.new }
-        ensures rest { drop (table.old.units * table.old.units) table.new.weights.now ≡ drop (table.old.units * table.old.units) table.old.weights.now }
+    // The marks as they stand now; lent as the guard's field alone, they would not be known where it is dropped.
+    fn marks(&self) -> &[u8]
+        ensures { result.now ≡ self.now.marks.now }
     {
-        fill(table, links, self.marks)
+        self.marks
     }
 }
 
@@ -58,13 +53,12 @@ pub fn fill_without<W: Weight>(
     requires ends { AllWithin (Joins W.Weight table.old.units) links.now 0 (length links.now) }
     requires index { index < length marks.old }
     ensures same { marks.new ≡ marks.old }
-    ensures units { table.new.units ≡ table.old.units }
-    ensures memory { table.new.weights.ghost_name ≡ table.old.weights.ghost_name }
+    ensures memory { SameMemory table.old table.new }
     ensures holds { total_of W.Weight links.now ≤ most_total → HoldsIn W.Weight (served W.Weight (slice_set marks.old index 0) links.now) [] table.new }
     ensures rest { drop (table.old.units * table.old.units) table.new.weights.now ≡ drop (table.old.units * table.old.units) table.old.weights.now }
 {
     let old = marks[index];
     let guard = MarkGuard { marks, index, old };
     guard.marks[index] = 0;
-    guard.fill(table, links)
+    fill(table, links, guard.marks())
 }
