@@ -38,7 +38,7 @@ pub fn read_code(cursor: &mut Cursor, issue: Issue, earlier: &[Unit]) -> Result<
     let place = cursor.place();
     let field = cursor.field(issue.code_size())?;
     let code = cursor.judged(FaultCode::parse(characters(issue, field)), place)?;
-    if is_borne(earlier, k, code, k) {
+    if is_borne(earlier, code, k) {
         return Err(cursor.fault(Refusal::CodeTaken, place));
     }
     Ok(code)

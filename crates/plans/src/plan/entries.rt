@@ -9,17 +9,14 @@ use codes::code::FaultCode;
 use refusals::Refusal;
 use weights::weight::Weight;
 
-// Whether one of the first `count` units, other than number `but`, bears the code.
-pub fn is_borne(units: &[Unit], count: usize, code: FaultCode, but: usize) -> bool
-    requires { count ≤ length units.now }
-    ensures { result ≡ borne_by_other but (bytes_of code) (map code_of (take count units.now)) }
+// Whether one of the units, other than number `but`, bears the code.
+pub fn is_borne(units: &[Unit], code: FaultCode, but: usize) -> bool
+    ensures { result ≡ borne_by_other but (bytes_of code) (map code_of units.now) }
 {
-    for (k, unit) in units[..count].iter().enumerate() {
-        if k != but && unit.code == code {
-            return true;
-        }
-    }
-    false
+    units
+        .iter()
+        .enumerate()
+        .any(|(k, unit)| k != but && unit.code == code)
 }
 
 // Gives one unit another code. A function over the table, since the rules want the one element lent mutably.
@@ -38,7 +35,7 @@ impl<'a, W: Weight> Plan<'a, W> {
     {
         let code = FaultCode::parse(text)?;
         let at = self.unit_count;
-        if is_borne(&self.units, at, code, at) {
+        if is_borne(&self.units[..at], code, at) {
             return Err(Refusal::CodeTaken);
         }
         if at >= UNITS {
@@ -58,7 +55,7 @@ impl<'a, W: Weight> Plan<'a, W> {
             return Err(Refusal::NoSuchUnit);
         }
         let code = FaultCode::parse(text)?;
-        if is_borne(&self.units, count, code, unit) {
+        if is_borne(&self.units[..count], code, unit) {
             return Err(Refusal::CodeTaken);
         }
         recode_at(&mut self.units, unit, code);

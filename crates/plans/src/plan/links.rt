@@ -92,6 +92,7 @@ impl<'a, W: Weight> Plan<'a, W> {
         ensures remarked { Remarked marks.now self.old self.new }
         ensures same { Shows marks.now (model_of self.old).links → Untouched self.old self.new }
     {
+        // by number, as what a zip lends to be written is not known after the loop
         for (i, mark) in marks[..self.link_count].iter().enumerate() {
             self.links[i].in_service = *mark == 1;
         }
