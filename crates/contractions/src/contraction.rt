@@ -38,7 +38,7 @@ struct Contraction<'t, 'm, 'e, W> {
 }
 
 // Works out the least weight of a division over the n units of the table, and marks such a division.
-// Queue, table, marks and entries are lent each by itself, as the rules want.
+// Queue, table, marks and entries are lent each by itself, as for `weakest`.
 pub fn contract<W: Weight, Q: PriorityQueue<Weight = W>>(
     queue: &mut Q,
     table: &mut [W],

@@ -51,15 +51,14 @@ fn turn_all(marks: &mut [u8])
     }
 }
 
-// Turns the marks over where unit 0 is marked.
-pub fn turn_over(marks: &mut [u8], n: usize)
-    requires some { 0 < n }
-    requires room { n ≤ length marks.old }
-    ensures turned { (S : ℕ → Bool) → Marks n S marks.old → Marks n (turned S) marks.new }
-    ensures rest { drop n marks.new ≡ drop n marks.old }
+// Turns the marks of all units over where unit 0 is marked.
+pub fn turn_over(marks: &mut [u8])
+    requires { 0 < length marks.old }
+    ensures length { length marks.new ≡ length marks.old }
+    ensures turned { (S : ℕ → Bool) → Marks (length marks.old) S marks.old → Marks (length marks.old) (turned S) marks.new }
 {
     if marks[0] == 0 {
         return;
     }
-    turn_all(&mut marks[0..n]);
+    turn_all(marks);
 }

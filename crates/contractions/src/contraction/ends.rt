@@ -33,7 +33,7 @@ impl<'t, 'm, 'e, W: Weight> Contraction<'t, 'm, 'e, W> {
         ensures outcome { (n : ℕ) (ls : List (Link W.Weight.Value)) (p : Point) → IsAt W.Weight n ls p self.old best → Work (kind_of W.Weight) n ls p → ended (kind_of W.Weight) n ls p ≡ true → Outcome (kind_of W.Weight) n ls (W.Weight.value result.best) self.new.marks.now (take result.mergers self.new.entries.now) result.scans }
     {
         let units = self.groups.units();
-        turn_over(self.marks, units);
+        turn_over(&mut self.marks[..units]);
         Progress {
             best,
             mergers: self.mergers,
