@@ -97,7 +97,7 @@ pub fn report(heap: Global, bytes: &[u8]) -> Result<String, AllocError>
     ensures plain { slice_get bytes.now 5 ≢ Some 2 → IfOk result (λ text. TellsFault plainKind bytes.now (string_bytes text)) }
 {
     match bytes.get(5) {
-        Some(2) => report_as::<Ranked>(heap, bytes),
+        Some(kind) if *kind == Ranked::KIND => report_as::<Ranked>(heap, bytes),
         _ => report_as::<Plain>(heap, bytes),
     }
 }
