@@ -25,7 +25,7 @@ fn plain(conductors: u32) -> Result<Plain, Refusal> {
     Plain::from_parts(&[conductors])
 }
 
-// The number of a refusal.
+// The number of a refusal, since the tests state refusals by the rules' numbers.
 fn refused<T: Drop>(reply: Result<T, Refusal>) -> Option<u8> {
     reply.err().map(u8::from)
 }

@@ -19,14 +19,14 @@ pub enum Tie {
 #[derive(Drop)]
 pub struct TiedQueue<W> {
     // a place for each group: a map or a Vec would allocate, and neither new nor put can say that there is no memory
-    keys: [Option<W>; 64],
+    keys: [Option<W>; GROUPS],
     tie: Tie,
+    pub ghost size: { length keys ≡ 64 },
 }
 
 impl<W: Weight> TiedQueue<W> {
     // An empty queue.
     pub fn new(tie: Tie) -> TiedQueue<W>
-        ensures sound { length result.keys ≡ 64 }
         ensures empty { Empty (keyed result.keys) }
         ensures tie { result.tie ≡ tie }
     {
@@ -38,16 +38,15 @@ impl<W: Weight> TiedQueue<W> {
 
     // The key of a group, where it waits.
     fn key_of(&self, group: usize) -> Option<W>
-        requires { length self.now.keys ≡ 64 }
         ensures key { result ≡ keyed self.now.keys group }
         ensures within { Within result group }
     {
         self.keys.get(group).copied().flatten()
     }
 
-    // A heaviest entry: of equally heavy ones that of the group that comes first.
+    // A heaviest entry: of equally heavy ones that of the group that comes first. Beside `heaviest` of the list, since
+    // the list is not told which of them to take.
     fn pick(&self) -> Option<(usize, W)>
-        requires { length self.now.keys ≡ 64 }
         ensures within { Reached result 64 }
         ensures picked { Picked (no_heavier W.Weight) self.now.tie (keyed self.now.keys) result }
     {
@@ -67,14 +66,15 @@ impl<W: Weight> TiedQueue<W> {
 impl<W: Weight> PriorityQueue for TiedQueue<W> {
     type Weight = W;
 
-    ghost sound = { λ q. length q.keys ≡ 64 };
+    // what every call could ask for is the field `size`
+    ghost sound = { λ _. Unit {0} };
 
     ghost key = { λ q. keyed q.keys };
 
     // all its memory is its own
     ghost spares = { λ _ _. Unit {0} };
 
-    ghost within = { λ q s g h. keyed_within q.keys s g h };
+    ghost within = { λ q _ g h. keyed_within q.keys q.size g h };
 
     fn clear(&mut self) {
         self.keys = no_keys();
@@ -106,14 +106,15 @@ impl<W: Weight> PriorityQueue for TiedQueue<W> {
 }
 
 // No key for any group.
-fn no_keys<W: Weight>() -> [Option<W>; 64]
+fn no_keys<W: Weight>() -> [Option<W>; GROUPS]
     ensures size { length result ≡ 64 }
     ensures empty { Empty (keyed result) }
 {
-    [None; 64]
+    [None; GROUPS]
 }
 
-// Whether the key of a higher group is taken before the best of the lower ones.
+// Whether the key of a higher group is taken before the best of the lower ones, which `heavier` of the list answers for
+// one choice alone.
 fn preferred<W: Weight>(tie: Tie, key: W, best: Option<(usize, W)>) -> bool
     ensures { result ≡ prefers (no_heavier W.Weight) tie best key }
 {

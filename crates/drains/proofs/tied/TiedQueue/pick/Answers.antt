@@ -14,7 +14,7 @@ loop-group-preserved g c =
     let keys = c.args.self.now.keys in
     let tie = c.args.self.now.tie in
     let i = c.loop-group.group in
-    let size = c.requires in
+    let size = c.args.self.now.size in
     let low : i < length keys = omega arith in
     let own : keyed keys i ≡ get_or keys i c.key-item.result = get_or_from_slice_get keys i c.key-item.result None (slice_get_read keys (length keys) i c.key-item.result refl low c.key-item.is) ∙ c.key-item.is in
     elim c.match-key.branch [
@@ -28,7 +28,7 @@ returns-clause-picked g c =
     let w = g.W.Weight in
     let laws = ordered w.value g.met.W.Weight.laws g.met.W.Weight.bounded in
     let keys = c.args.self.now.keys in
-    let size = c.requires in
+    let size = c.args.self.now.size in
     let e : c.loop-group.group ≡ 64 = omega arith in
     let inv = rw e at c.loop-group.invariant in
-    pick_all (no_heavier w) laws c.args.self.now.tie (keyed keys) (keyed_within keys c.requires) c.loop-group.best inv
+    pick_all (no_heavier w) laws c.args.self.now.tie (keyed keys) (keyed_within keys c.args.self.now.size) c.loop-group.best inv
