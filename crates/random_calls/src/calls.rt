@@ -19,7 +19,8 @@ use std::alloc::{AllocError, Global};
 use std::mem;
 use weights::weight::Weight;
 
-// A call with its arguments.
+// A call with its arguments, as plain values: it is printed and given to the model, and `Call` of `runs` holds the
+// library's weights.
 #[derive(Debug, Drop)]
 pub enum Call {
     Enter(Vec<u8>),
@@ -40,7 +41,8 @@ impl From<Refusal> for Trouble {
     }
 }
 
-// What the memory for record entries holds before it is lent.
+// What the memory for record entries holds before it is lent. The report has such an entry of its own, which stays
+// private, and this program stands on nothing of it.
 const BLANK: Entry = Entry {
     low: 0,
     high: 0,

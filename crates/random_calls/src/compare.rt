@@ -1,15 +1,10 @@
 // What the model says to a call, and whether a filing did the same.
-ghost use Rattle.std.specs.Prelude.{◌≡◌, ◌+◌, ◌<◌, ◌↔◌, All, IsTrue, length, vec_len};
-ghost use Rattle.std.specs.List.{zip};
-ghost use Rattle.plans.specs.Model.{model_of};
-ghost use Rattle.samples.specs.Wires.{wire_of};
+ghost use Rattle.std.specs.Prelude.{◌≡◌, ◌+◌, ◌<◌, ◌↔◌, IsTrue};
 
 use crate::calls::Call;
 use crate::model::{Model, Reply, Seen, Trouble, amount};
-use filings::filing::Filing;
-use samples::wire::{Parts, are_wires, bear_codes};
+use samples::wire::Parts;
 use std::fmt;
-use weights::weight::Weight;
 
 // Whether a weight with these parts cannot be made.
 fn is_over(parts: Parts) -> bool
@@ -21,28 +16,32 @@ fn is_over(parts: Parts) -> bool
 // Makes a call on the model and gives its reply; what is seen of the library's tells what the rules leave open.
 pub fn expect(model: &mut Model, call: &Call, seen: &Seen) -> Result<Reply, Trouble> {
     match call {
-        Call::Enter(text) => model.enter(text.as_slice()),
-        Call::Recode(unit, text) => model.recode(*unit, text.as_slice()),
+        Call::Enter(text) => Ok(Reply::Number(model.enter(text.as_slice())?)),
+        Call::Recode(unit, text) => {
+            model.recode(*unit, text.as_slice())?;
+            Ok(Reply::Done)
+        }
         Call::Link(_, _, parts) if is_over(*parts) => Err(Trouble::Refused(12)),
-        Call::Link(first, second, parts) => model.link((*first, *second), *parts),
-        Call::Strike(link) => model.strike(*link),
+        Call::Link(first, second, parts) => {
+            Ok(Reply::Number(model.link((*first, *second), *parts)?))
+        }
+        Call::Strike(link) => {
+            model.strike(*link)?;
+            Ok(Reply::Done)
+        }
         Call::Reweigh(_, parts) if is_over(*parts) => Err(Trouble::Refused(12)),
-        Call::Reweigh(link, parts) => model.reweigh(*link, *parts),
-        Call::Mark(link, mark) => model.mark(*link, *mark),
-        Call::Weigh(marks) => model.weigh(marks.as_slice()),
+        Call::Reweigh(link, parts) => {
+            model.reweigh(*link, *parts)?;
+            Ok(Reply::Done)
+        }
+        Call::Mark(link, mark) => {
+            model.mark(*link, *mark)?;
+            Ok(Reply::Done)
+        }
+        Call::Weigh(marks) => Ok(Reply::Weight(model.weigh(marks.as_slice())?)),
         Call::Weakest(lent) => model.weakest(*lent, seen),
         Call::Trial(link, lent) => model.trial(*link, *lent, seen),
     }
-}
-
-// Whether the filing's plan is the model's.
-pub fn is_same<W: Weight>(filing: &Filing<W>, model: &Model) -> bool
-    ensures codes { IsTrue result → length (model_of filing.now.plan).codes ≡ vec_len model.now.codes }
-    ensures links { IsTrue result → (length (model_of filing.now.plan).links ≡ vec_len model.now.wires) × All (λ p. wire_of W.Weight p.0 ≡ p.1) (zip (model_of filing.now.plan).links model.now.wires.items) }
-{
-    let plan = filing.plan();
-    bear_codes(plan.units(), model.codes.as_slice())
-        && are_wires(plan.links(), model.wires.as_slice())
 }
 
 // What a call came to on a filing, what is right, and whether the plan is then the model's.

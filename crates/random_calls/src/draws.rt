@@ -18,7 +18,7 @@ pub enum Form {
     Filling,
 }
 
-// What draws the calls of runs with weights of one kind.
+// What draws the calls of runs with weights of one kind; what round trips draw alike is in `samples`.
 #[derive(Drop)]
 pub struct Draws {
     pub heap: Global,

@@ -15,7 +15,8 @@ pub const NOTHING: Parts = (0, 0);
 // What the memory for marks holds before it is lent.
 pub const UNTOUCHED: u8 = 9;
 
-// How much memory is lent for an answer: marks, record entries and weights.
+// How much memory is lent for an answer: marks, record entries and weights. This and `Reply` are not those of `runs`,
+// since the model shares nothing with what the library promises.
 #[derive(Clone, Copy, Debug)]
 pub struct Lent {
     pub marks: usize,
@@ -45,7 +46,7 @@ pub enum Reply {
 // Why a call has no reply.
 #[derive(Clone, Copy, PartialEq, Eq, Debug)]
 pub enum Trouble {
-    // it is refused with this number
+    // it is refused with this number, as the rules give it
     Refused(u8),
     // the marks of an answer are not those of its figure, or not those that were kept
     WrongMarks,
@@ -169,8 +170,8 @@ impl Model {
         }
     }
 
-    pub fn enter(&mut self, text: &[u8]) -> Result<Reply, Trouble>
-        ensures number { IfOk result (λ reply. reply ≡ Reply.Number (vec_len self.old.codes)) }
+    pub fn enter(&mut self, text: &[u8]) -> Result<usize, Trouble>
+        ensures number { IfOk result (λ number. number ≡ vec_len self.old.codes) }
         ensures units { OnOk result (vec_len self.new.codes ≡ vec_len self.old.codes + 1) }
     {
         let number = self.codes.len();
@@ -185,11 +186,10 @@ impl Model {
         }
         self.codes.push(text.to_vec(self.heap)?)?;
         self.kept = None;
-        Ok(Reply::Number(number))
+        Ok(number)
     }
 
-    pub fn recode(&mut self, unit: usize, text: &[u8]) -> Result<Reply, Trouble>
-        ensures done { IfOk result (λ reply. reply ≡ Reply.Done) }
+    pub fn recode(&mut self, unit: usize, text: &[u8]) -> Result<(), Trouble>
         ensures unit { OnOk result (unit < vec_len self.old.codes) }
     {
         if unit >= self.codes.len() {
@@ -202,11 +202,11 @@ impl Model {
             return Err(Trouble::Refused(8));
         }
         self.codes[unit] = text.to_vec(self.heap)?;
-        Ok(Reply::Done)
+        Ok(())
     }
 
-    pub fn link(&mut self, ends: (usize, usize), parts: Parts) -> Result<Reply, Trouble>
-        ensures number { IfOk result (λ reply. reply ≡ Reply.Number (vec_len self.old.wires)) }
+    pub fn link(&mut self, ends: (usize, usize), parts: Parts) -> Result<usize, Trouble>
+        ensures number { IfOk result (λ number. number ≡ vec_len self.old.wires) }
         ensures links { OnOk result (self.new.wires.items ≡ self.old.wires.items ++ (record { ends = ends; serves = true; parts = parts } ∷ [])) }
     {
         let units = self.codes.len();
@@ -233,7 +233,7 @@ impl Model {
             parts,
         })?;
         self.settle(ends, NOTHING, parts);
-        Ok(Reply::Number(number))
+        Ok(number)
     }
 
     // A link, if there is one with this number.
@@ -243,8 +243,7 @@ impl Model {
         self.wires.get(link).copied().ok_or(Trouble::Refused(13))
     }
 
-    pub fn strike(&mut self, link: usize) -> Result<Reply, Trouble>
-        ensures done { IfOk result (λ reply. reply ≡ Reply.Done) }
+    pub fn strike(&mut self, link: usize) -> Result<(), Trouble>
         ensures links { OnOk result (self.new.wires.items ≡ remove self.old.wires.items link) }
     {
         if link >= self.wires.len() {
@@ -252,7 +251,7 @@ impl Model {
         }
         let old = self.wires.remove(link);
         self.settle(old.ends, carried(old), NOTHING);
-        Ok(Reply::Done)
+        Ok(())
     }
 
     // Puts another link in the place of one.
@@ -265,8 +264,7 @@ impl Model {
         self.settle(new.ends, carried(old), carried(new));
     }
 
-    pub fn reweigh(&mut self, link: usize, parts: Parts) -> Result<Reply, Trouble>
-        ensures done { IfOk result (λ reply. reply ≡ Reply.Done) }
+    pub fn reweigh(&mut self, link: usize, parts: Parts) -> Result<(), Trouble>
         ensures link { OnOk result (link < vec_len self.old.wires) }
     {
         let old = self.wire(link)?;
@@ -277,11 +275,10 @@ impl Model {
             return Err(Trouble::Refused(12));
         }
         self.change(link, old, Wire { parts, ..old });
-        Ok(Reply::Done)
+        Ok(())
     }
 
-    pub fn mark(&mut self, link: usize, mark: u8) -> Result<Reply, Trouble>
-        ensures done { IfOk result (λ reply. reply ≡ Reply.Done) }
+    pub fn mark(&mut self, link: usize, mark: u8) -> Result<(), Trouble>
         ensures link { OnOk result (link < vec_len self.old.wires) }
     {
         let old = self.wire(link)?;
@@ -291,7 +288,7 @@ impl Model {
             _ => return Err(Trouble::Refused(14)),
         };
         self.change(link, old, Wire { serves, ..old });
-        Ok(Reply::Done)
+        Ok(())
     }
 
     // The plan's links over its units.
@@ -302,7 +299,7 @@ impl Model {
         }
     }
 
-    pub fn weigh(&self, marks: &[u8]) -> Result<Reply, Trouble>
+    pub fn weigh(&self, marks: &[u8]) -> Result<Parts, Trouble>
         ensures { OnOk result ((2 ≤ vec_len self.now.codes) × (length marks.now ≡ vec_len self.now.codes)) }
     {
         let units = self.codes.len();
@@ -315,6 +312,6 @@ impl Model {
         if !marks.contains(&0) || !marks.contains(&1) {
             return Err(Trouble::Refused(15));
         }
-        Ok(Reply::Weight(self.network().cut(marks)))
+        Ok(self.network().cut(marks))
     }
 }

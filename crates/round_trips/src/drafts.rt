@@ -12,7 +12,8 @@ pub struct Draft {
     pub wires: Vec<Wire>,
 }
 
-// What draws up the plans, with weights of one kind.
+// What draws up the plans, with weights of one kind. Not the draws of random calls, whose arguments may have faults, and
+// whose numbers are drawn in another order; what both draw alike is in `samples`.
 #[derive(Drop)]
 pub struct Draws {
     pub heap: Global,
@@ -31,7 +32,7 @@ impl Draws {
         if first == 0 { (0, 1) } else { (first, 0) }
     }
 
-    // The parts of a weight with an amount.
+    // The parts of a weight with an amount, over both of them; random calls put it in one of them at times.
     fn parts(&mut self, amount: u32) -> Parts {
         match self.kind {
             WeightKind::Plain => (amount, 0),

@@ -41,7 +41,7 @@ pub fn encode(heap: Global, draft: &Draft, issue: u16) -> Result<Vec<u8>, AllocE
     Ok(bytes)
 }
 
-// The number that write is to be refused with, if any.
+// The number that write is to be refused with, if any: a number, since nothing here is the library's.
 pub fn refusal(draft: &Draft, issue: u16, size: usize, room: usize) -> Option<u8> {
     match issue {
         1 if draft.codes.iter().any(|code| code.len() == 7) => Some(16),

@@ -4,7 +4,7 @@ use crate::encoder::{encode, refusal};
 use plans::plan::Plan;
 use readers::read::read;
 use refusals::Refusal;
-use samples::wire::{Wire, are_wires, bear_codes};
+use samples::wire::{Wire, is_made_of};
 use std::alloc::{AllocError, Global};
 use weights::weight::Weight;
 use writers::write::write;
@@ -22,6 +22,7 @@ pub struct Case<'a> {
 // What the lent bytes hold before write.
 const UNTOUCHED: u8 = 0xA5;
 
+// The mark is a byte, as the call takes it.
 fn add_wire<W: Weight>(plan: &mut Plan<W>, wire: Wire) -> Result<(), Refusal> {
     let weight = W::from_parts(&[wire.parts.0, wire.parts.1])?;
     let link = plan.link(wire.ends.0, wire.ends.1, weight)?;
@@ -38,12 +39,6 @@ pub fn build<W: Weight>(plan: &mut Plan<W>, draft: &Draft) -> Result<(), Refusal
         add_wire(plan, *wire)?;
     }
     Ok(())
-}
-
-// Whether a plan is the draft's.
-fn is_same<W: Weight>(plan: &Plan<W>, draft: &Draft) -> bool {
-    bear_codes(plan.units(), draft.codes.as_slice())
-        && are_wires(plan.links(), draft.wires.as_slice())
 }
 
 // Whether bytes are a sheet and then, up to their end, as they were before.
@@ -64,7 +59,7 @@ impl<'a> Case<'a> {
         })
     }
 
-    // The number that write into so many bytes is to be refused with, if any.
+    // The number that write into so many bytes is to be refused with, if any, as the encoder states it.
     pub fn refusal(&self, room: usize) -> Option<u8> {
         refusal(self.draft, self.issue, self.sheet.len(), room)
     }
@@ -83,6 +78,11 @@ impl<'a> Case<'a> {
 
     // Whether the sheet reads back as the draft's plan.
     pub fn reads<W: Weight>(&self, plan: &mut Plan<W>) -> bool {
-        read(self.sheet.as_slice(), plan).is_ok() && is_same(plan, self.draft)
+        read(self.sheet.as_slice(), plan).is_ok()
+            && is_made_of(
+                plan,
+                self.draft.codes.as_slice(),
+                self.draft.wires.as_slice(),
+            )
     }
 }

@@ -1,10 +1,10 @@
 // Links and weight kinds as plain values, apart from the library's own.
 ghost use Rattle.std.specs.Prelude.{◌≡◌, ◌↔◌, All, IsTrue, length};
 ghost use Rattle.std.specs.List.{zip};
-ghost use Rattle.plans.specs.Model.{code_of};
+ghost use Rattle.plans.specs.Model.{code_of, model_of};
 ghost use Rattle.samples.specs.Wires.{parts_of, wire_of};
 
-use plans::plan::{Link, Unit};
+use plans::plan::{Link, Plan, Unit};
 use weights::weight::Weight;
 
 // The kinds of weights.
@@ -65,4 +65,12 @@ pub fn are_wires<W: Weight>(links: &[Link<W>], wires: &[Wire]) -> bool
             .iter()
             .zip(wires)
             .all(|(link, wire)| Wire::from(*link) == *wire)
+}
+
+// Whether a plan has just these codes and links, in order.
+pub fn is_made_of<W: Weight>(plan: &Plan<W>, codes: &[Vec<u8>], wires: &[Wire]) -> bool
+    ensures codes { IsTrue result → length (model_of plan.now).codes ≡ length codes.now }
+    ensures links { IsTrue result → (length (model_of plan.now).links ≡ length wires.now) × All (λ p. wire_of W.Weight p.0 ≡ p.1) (zip (model_of plan.now).links wires.now) }
+{
+    bear_codes(plan.units(), codes) && are_wires(plan.links(), wires)
 }
