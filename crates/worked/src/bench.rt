@@ -7,9 +7,9 @@ use answers::weakest::weakest;
 use cuts::entry::Entry;
 use cuts::ground::Ground;
 use filings::filing::Filing;
-use plans::plan::Link;
+use plans::plan::{self, Link};
 use queues::list::{ListQueue, Slot};
-use queues::queue::PriorityQueue;
+use queues::queue::{GROUPS, PriorityQueue};
 use refusals::Refusal;
 use std::process::Abort;
 use std::test::Fail;
@@ -98,6 +98,7 @@ pub enum Edit {
     Link(usize, usize, u32),
     Strike(usize),
     Reweigh(usize, u32),
+    // a byte, since one that is no mark is to be refused
     Mark(usize, u8),
 }
 
@@ -130,7 +131,8 @@ pub fn entry(low: u8, high: u8, ground: Ground, scan: u8) -> Entry {
     }
 }
 
-// The number of a refusal, where there is one.
+// The number of a refusal, where there is one. This and `plain` stand in the tests of `drains` too, since a module of
+// tests cannot be shared between crates.
 pub fn refused<T: Drop>(outcome: Result<T, Refusal>) -> Option<u8> {
     outcome.err().map(|why| why.number())
 }
@@ -176,7 +178,8 @@ fn make(filing: &mut Filing<Plain>, edit: Edit) -> Result<(), Refusal> {
     }
 }
 
-// The weakest division by a queue, or that with one link out.
+// The weakest division by a queue, or that with one link out. The random calls choose between both too, in memory from
+// the heap and with what is seen of it, which tests on the stack cannot take from that program.
 pub fn asked<Q: PriorityQueue<Weight = Plain>>(
     filing: &mut Filing<Plain>,
     queue: &mut Q,
@@ -203,7 +206,7 @@ pub fn asked<Q: PriorityQueue<Weight = Plain>>(
 
 // The weakest division, or that with one link out, by the list queue.
 pub fn by_list(filing: &mut Filing<Plain>, without: Option<usize>) -> Result<Seen, Refusal> {
-    let mut slots = [Slot::<Plain>::empty(); 64];
+    let mut slots = [Slot::<Plain>::empty(); GROUPS];
     let mut queue = ListQueue::over(&mut slots);
     asked(filing, &mut queue, without)
 }
@@ -228,7 +231,7 @@ fn is_example(filing: &Filing<Plain>) -> bool {
 pub fn worked_out(units: u8, links: &[(usize, usize, u32)]) -> Result<Seen, Refusal>
     requires { units ≤ 100 }
 {
-    let mut memory = [Link::<Plain>::blank(); 512];
+    let mut memory = [Link::<Plain>::blank(); plan::LINKS];
     let mut filing = Filing::open(&mut memory);
     enter_units(&mut filing, units)?;
     join(&mut filing, links)?;
@@ -261,7 +264,7 @@ fn answers(
     Ok(())
 }
 
-// The weight of a division, or the number of the refusal.
+// The weight of a division, or the number of the refusal, as a step states it.
 fn weighed(filing: &Filing<Plain>, marks: &[u8]) -> Result<u32, u8> {
     filing
         .weigh(marks)
@@ -269,7 +272,7 @@ fn weighed(filing: &Filing<Plain>, marks: &[u8]) -> Result<u32, u8> {
         .map_err(|why| why.number())
 }
 
-// The figure with one link out, or the number of the refusal.
+// The figure with one link out, or the number of the refusal, as a step states it.
 fn tried(filing: &mut Filing<Plain>, link: usize) -> Result<u32, u8> {
     by_list(filing, Some(link))
         .map(|seen| seen.figure)
@@ -310,7 +313,7 @@ pub fn follow(rt: &impl Abort, filing: &mut Filing<Plain>, steps: &[Step]) -> Re
 
 // Goes through the steps of a test, from a plan with no units.
 pub fn play(rt: &impl Abort, steps: &[Step]) -> Result<(), Fail> {
-    let mut memory = [Link::<Plain>::blank(); 512];
+    let mut memory = [Link::<Plain>::blank(); plan::LINKS];
     let mut filing = Filing::open(&mut memory);
     follow(rt, &mut filing, steps)
 }

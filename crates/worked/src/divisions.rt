@@ -4,8 +4,9 @@ use crate::example::{LINKS, RANKED_SHEET};
 use answers::weakest::weakest;
 use cuts::ground::Ground;
 use filings::filing::Filing;
-use plans::plan::Link;
+use plans::plan::{self, Link};
 use queues::list::{ListQueue, Slot};
+use queues::queue::GROUPS;
 use refusals::Refusal;
 use std::test::Fail;
 use weights::ranked::Ranked;
@@ -87,9 +88,10 @@ fn three_by_three(rt: HostRuntime) -> Result<(), Fail> {
     Ok(())
 }
 
-// The parts of the figure, and the marks.
+// The parts of the figure, and the marks. Not by `asked`, in whose answers a figure is one number and memory is for six
+// units.
 fn weakest_ranked(filing: &mut Filing<Ranked>) -> Result<((u32, u32), [u8; 3]), Refusal> {
-    let mut slots = [Slot::<Ranked>::empty(); 64];
+    let mut slots = [Slot::<Ranked>::empty(); GROUPS];
     let mut queue = ListQueue::over(&mut slots);
     let mut marks = [UNTOUCHED; 3];
     let mut record = [BLANK; 3];
@@ -102,7 +104,7 @@ fn weakest_ranked(filing: &mut Filing<Ranked>) -> Result<((u32, u32), [u8; 3]), 
 // share (1,0), which is heavier.
 #[test]
 fn ranked(rt: HostRuntime) -> Result<(), Fail> {
-    let mut memory = [Link::<Ranked>::blank(); 512];
+    let mut memory = [Link::<Ranked>::blank(); plan::LINKS];
     let mut filing = Filing::open(&mut memory);
     filing.read(RANKED_SHEET)?;
     assert_eq!(rt; weakest_ranked(&mut filing)?, ((0, 14), [0, 0, 1]));

@@ -1,7 +1,7 @@
 // What each edit refuses, in the order of its checks. A refused edit changes nothing.
 use crate::bench::*;
 use filings::filing::Filing;
-use plans::plan::Link;
+use plans::plan::{self, Link};
 use std::test::Fail;
 use weights::plain::Plain;
 
@@ -25,7 +25,7 @@ fn enter_and_recode(rt: HostRuntime) -> Result<(), Fail> {
 
 #[test]
 fn codes_of_other_lengths(rt: HostRuntime) -> Result<(), Fail> {
-    let mut memory = [Link::<Plain>::blank(); 512];
+    let mut memory = [Link::<Plain>::blank(); plan::LINKS];
     let mut filing = Filing::open(&mut memory);
     assert_eq!(rt; refused(filing.enter(b"U1000")), Some(7));
     assert_eq!(rt; refused(filing.enter(b"U1000123")), Some(7));
@@ -36,7 +36,7 @@ fn codes_of_other_lengths(rt: HostRuntime) -> Result<(), Fail> {
 
 #[test]
 fn a_65th_unit(rt: HostRuntime) -> Result<(), Fail> {
-    let mut memory = [Link::<Plain>::blank(); 512];
+    let mut memory = [Link::<Plain>::blank(); plan::LINKS];
     let mut filing = Filing::open(&mut memory);
     enter_units(&mut filing, 64)?;
     follow(
@@ -74,7 +74,7 @@ fn link(rt: HostRuntime) -> Result<(), Fail> {
 // 999,489 and 511 links of 1 come to 1,000,000.
 #[test]
 fn a_513th_link(rt: HostRuntime) -> Result<(), Fail> {
-    let mut memory = [Link::<Plain>::blank(); 512];
+    let mut memory = [Link::<Plain>::blank(); plan::LINKS];
     let mut filing = Filing::open(&mut memory);
     enter_units(&mut filing, 2)?;
     join(&mut filing, &[(0, 1, 999_489)])?;

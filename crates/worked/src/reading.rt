@@ -2,7 +2,7 @@
 use crate::bench::*;
 use crate::example::SHEET;
 use filings::filing::Filing;
-use plans::plan::Link;
+use plans::plan::{self, Link};
 use refusals::Refusal;
 use sheets::fault::{Fault, Part};
 use std::process::Abort;
@@ -43,7 +43,7 @@ fn damaged(at: usize, byte: u8) -> [u8; 61] {
 
 // Checks the fault of each damage.
 fn refuses(rt: &impl Abort, damages: &[Damage]) -> Result<(), Fail> {
-    let mut memory = [Link::<Plain>::blank(); 512];
+    let mut memory = [Link::<Plain>::blank(); plan::LINKS];
     let mut filing = Filing::open(&mut memory);
     begin(rt, &mut filing)?;
     for damage in damages {

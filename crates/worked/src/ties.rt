@@ -3,14 +3,14 @@ use crate::bench::*;
 use cuts::ground::Ground;
 use drains::tied::{Tie, TiedQueue};
 use filings::filing::Filing;
-use plans::plan::Link;
+use plans::plan::{self, Link};
 use refusals::Refusal;
 use std::test::Fail;
 use weights::plain::Plain;
 
 // The answer by a queue with the given choice.
 fn by_choice(tie: Tie) -> Result<Seen, Refusal> {
-    let mut memory = [Link::<Plain>::blank(); 512];
+    let mut memory = [Link::<Plain>::blank(); plan::LINKS];
     let mut filing = Filing::open(&mut memory);
     enter_units(&mut filing, 6)?;
     join(&mut filing, THREE_BY_THREE)?;

@@ -2,7 +2,7 @@
 use crate::bench::*;
 use cuts::ground::Ground;
 use filings::filing::Filing;
-use plans::plan::Link;
+use plans::plan::{self, Link};
 use std::test::Fail;
 use weights::plain::Plain;
 
@@ -10,7 +10,7 @@ use weights::plain::Plain;
 // shares 1 with unit 2, ground 1.
 #[test]
 fn beside_kept_marks(rt: HostRuntime) -> Result<(), Fail> {
-    let mut memory = [Link::<Plain>::blank(); 512];
+    let mut memory = [Link::<Plain>::blank(); plan::LINKS];
     let mut filing = Filing::open(&mut memory);
     begin(&rt, &mut filing)?;
     let expected = Seen {
