@@ -36,12 +36,14 @@ pub enum Call<W> {
     },
     Mark {
         link: usize,
+        // a number, as one that is no mark is to be refused
         mark: u8,
     },
     Weigh(Vec<u8>),
     Read(Vec<u8>),
     // into so many bytes
     Write {
+        // a number, as one that is no issue is to be refused
         issue: u16,
         room: usize,
     },

@@ -7,5 +7,6 @@ pub struct Answer<W> {
     pub figure: W,
     pub mergers: usize,
     pub scans: usize,
+    // a flag, as the rules have it: mergers and scans are 0 then
     pub kept: bool,
 }

@@ -18,6 +18,7 @@ use tables::table::Table;
 use weights::weight::Weight;
 
 // Works out the figure from a filled table, and leaves the table as nothing.
+// Queue, table, marks and entries are lent each by itself, as for `weakest`.
 pub fn work_out<W: Weight, Q: PriorityQueue<Weight = W>>(
     queue: &mut Q,
     table: &mut [W],
@@ -46,6 +47,7 @@ pub fn work_out<W: Weight, Q: PriorityQueue<Weight = W>>(
 }
 
 // The weakest division of a plan of two units or more.
+// Queue, marks, entries and table are lent each by itself, as for `weakest`.
 pub fn solve<W: Weight, Q: PriorityQueue<Weight = W>>(
     plan: &Plan<W>,
     queue: &mut Q,
@@ -63,7 +65,8 @@ pub fn solve<W: Weight, Q: PriorityQueue<Weight = W>>(
 {
     let n = plan.unit_count();
     let links = plan.links();
-    // No heap: a mark for as many links as there can be, lent beside the links, as one of them can be put out and back.
+    // No heap: a mark for as many links as there can be. The marks lie beside the links, as one `fill` serves an answer and a
+    // trial, in which one mark is put out and back.
     let mut in_service = [0; LINKS];
     copy_marks(links, &mut in_service);
     fill(&mut Table::over(table, n), links, &in_service);
