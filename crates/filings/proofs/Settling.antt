@@ -1,5 +1,5 @@
 -- From what a call on the plan and the table say to what becomes of kept marks.
-use Rattle.std.proofs.Common.{◌≡◌, ℕ, ◌<◌, Bool, true, false, ◌&&◌, ltb, List, length, get_or, Some, None, Ok, Option, sym, ap, ◌∙◌, subst, ⊎_elim, arith}
+use Rattle.std.proofs.Common.{◌≡◌, ℕ, zero, suc, ◌<◌, Bool, true, false, cond, ◌&&◌, eqb, ltb, List, length, get_or, Some, None, Ok, Option, refl, sym, ap, ◌∙◌, subst, ⊎_elim, arith}
 use Rattle.std.proofs.lemmas.List.{get_or-take}
 use Rattle.std.proofs.lemmas.Bool.{and_parts, cases_Bool, ltb-true}
 use Rattle.refusals.specs.declared.Refusal.{Refusal}
@@ -50,6 +50,12 @@ stays_filed {g = g} before after stay next is kept sides keeps filed = record {
       let new = keeps (fair_plan before.plan) (subst (λ m. Fairly g m) is (fair_plan after.plan)) (filed.current both.0) both.1 in
       subst (λ m. Marks g m after.kept.sides) (sym is) (subst (λ xs. Marks g next xs) (sym sides) new);
 }
+
+-- a mark below 2 is 1 where it is not 0
+pub by_mark : {X : Type 0} (b : ℕ) → b < 2 → (x y : X) → cond (eqb b 1) x y ≡ cond (eqb b 0) y x
+by_mark zero h x y = refl
+by_mark (suc zero) h x y = refl
+by_mark (suc (suc b)) h x y = absurd (omega arith)
 
 -- a mark that is accepted is 0 or 1
 pub mark_below : {W : Type 0} (m : Model W) (k b : ℕ) → mark_verdict m k b ≡ None → b < 2

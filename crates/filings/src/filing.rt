@@ -37,13 +37,14 @@ fn change<W: Weight>(before: W, after: W) -> Change
     }
 }
 
-// The edit that a mark, 0 or 1, makes of a link.
-fn mark_edit(link: Ends, mark: u8) -> Edit
-    ensures { result ≡ cond (mark == 0) (Out link) (In link) }
+// The edit that a mark makes of a link: in service or out.
+fn mark_edit(link: Ends, in_service: bool) -> Edit
+    ensures { result ≡ cond in_service (In link) (Out link) }
 {
-    match mark {
-        0 => Edit::Out(link),
-        _ => Edit::In(link),
+    if in_service {
+        Edit::In(link)
+    } else {
+        Edit::Out(link)
     }
 }
 
@@ -152,7 +153,7 @@ impl<'a, W: Weight> Filing<'a, W> {
     {
         let old = self.plan.link_at(link)?;
         self.plan.mark(link, mark)?;
-        self.kept.settle(mark_edit(Ends::from(old), mark));
+        self.kept.settle(mark_edit(Ends::from(old), mark == 1));
         Ok(())
     }
 

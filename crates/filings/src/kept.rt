@@ -4,7 +4,8 @@ ghost use Rattle.filings.specs.Edits.{ends_of, is_one_side, outlives, Within};
 
 use plans::plan::Link;
 
-// How a new weight compares with the old one.
+// How a new weight compares with the old one. No `std::cmp::Ordering`: it names what the rules' table of kept marks asks, and
+// `Weight` has its order as one test, `at_most`, which its laws speak of, where `Ord` would have laws of its own.
 #[derive(Clone, Copy)]
 pub enum Change {
     Equal,
@@ -47,7 +48,9 @@ pub enum Edit {
 }
 
 // Whether marks are kept, and the side of each unit. A flag with the sides beside it, as the rules name the form that
-// matches it with the edit, and the sides stay as they were when it falls.
+// matches it with the edit, and the sides stay as they were when it falls. That there are 64 sides stays in `Filed`: tried as a
+// ghost field, with which the marks could be lent only by copying all sides, since no field of a struct with a ghost field is
+// lent from behind two references.
 #[derive(Drop)]
 pub struct Kept {
     kept: bool,
@@ -100,7 +103,7 @@ impl Kept {
         self.sides[link.first] == self.sides[link.second]
     }
 
-    // Keeps the marks of the first n units.
+    // Keeps the marks of the first n units. So many, and not one slice of them, as in `write`.
     pub fn keep(&mut self, marks: &[u8], n: usize)
         requires most { n ≤ 64 }
         requires size { n ≤ length marks.now }
@@ -112,7 +115,8 @@ impl Kept {
         self.kept = true;
     }
 
-    // Writes the kept marks of the first n units.
+    // Writes the kept marks of the first n units. So many, and not one slice of them: tried, and what the caller's marks hold
+    // after a part of them was lent on did not come out.
     pub fn write(&self, marks: &mut [u8], n: usize)
         requires most { n ≤ 64 }
         requires size { n ≤ length marks.old }
