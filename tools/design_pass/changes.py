@@ -8,9 +8,17 @@ The comparison itself is the kit's /opt/rattle/port/contracts.py.
 """
 import glob, io, json, os, subprocess, sys, tarfile, tempfile
 
+sys.path.insert(0, '/opt/rattle/port')
+import contracts
+
 # the crates of the commit that have another name today, and those that stood beside them as twins
 RENAMED = [('filings', 'older_filings'), ('kept_plans', 'filings'), ('worked', 'older_worked'), ('worked_answers', 'worked'),
            ('random_calls', 'older_random'), ('random_answers', 'random_calls')]
+# functions that became methods of a struct, or stand in another crate, where the comparison doesn't find them again
+MOVED = [(('tables', name), ('tables', "Table<'a, W>", name)) for name in ('entry', 'set_entry', 'set_joint', 'clear')]
+MOVED += [(('rows', name), ('tables', "Table<'a, W>", name)) for name in ('add_link', 'grown', 'lightest', 'is_lighter', 'merge_rows', 'merge_entry')]
+MOVED += [(('writers', name), ('writers', "Pen<'a>", name)) for name in ('put_byte', 'put_bytes')]
+MOVED += [(('contractions', name), ('contractions', "Contraction<'t, 'm, 'e, W>", name)) for name in ('goes_on', 'note_best', 'merge', 'merge_found', 'round')]
 TESTS = ('worked', 'random_calls', 'round_trips', 'older_', 'conformance')
 
 
@@ -44,8 +52,27 @@ def block(title, old, new):
     print('```\n')
 
 
+def written(functions, crate, name, place=None):
+    """The signature and clauses of a function, and where it stands."""
+    for key, found in functions.items():
+        if key[0] == crate and key[3] == name and place in (None, key[2]):
+            f = found[0]
+            return ' '.join(part for part in key if part), ['fn ' + ' '.join(f['sign'].split())] + clauses('requires', [c[1:] for c in f['requires']]) + clauses('ensures', [c[1:] for c in f['ensures']])
+    return None, []
+
+
+def moved(old, new):
+    before, after = contracts.read(old)[1], contracts.read(new)[1]
+    for (crate, name), (to, place, as_name) in MOVED:
+        was, old_lines = written(before, crate, name)
+        now, new_lines = written(after, to, as_name, place)
+        if was and now and not written(after, crate, name, '')[0]:
+            block(f'{was}` is now `{now}', old_lines, new_lines)
+
+
 def main():
-    told = subprocess.run(['python3', '/opt/rattle/port/contracts.py', old_tree(sys.argv[1]), '.', '--json'], capture_output=True, text=True).stdout
+    tree = old_tree(sys.argv[1])
+    told = subprocess.run(['python3', '/opt/rattle/port/contracts.py', tree, '.', '--json'], capture_output=True, text=True).stdout
     data = json.loads(told)
     signatures = {name: (old, new) for name, old, new in data['signatures changed']}
     print('### Contracts\n')
@@ -60,6 +87,8 @@ def main():
             before, after = signatures[name]
             old, new = ['fn ' + ' '.join(before.split())] + old, ['fn ' + ' '.join(after.split())] + new
         block(name, old, new)
+    print('### Functions that are methods now, or stand elsewhere\n')
+    moved(tree, '.')
     print('### Signatures whose clauses stayed\n')
     for name, (before, after) in signatures.items():
         if name not in shown and not name.startswith(TESTS):
