@@ -20,7 +20,7 @@ use tables::table::Table;
 use weights::weight::Weight;
 
 // Works the answer out with one link out of service. The marks of the links are copied out, lent beside the links while the
-// weight table is filled, and written back.
+// weight table is filled, and written back. Queue, marks, entries and table are lent each by itself, as for `weakest`.
 fn solve_without<W: Weight, Q: PriorityQueue<Weight = W>>(
     filing: &mut Filing<W>,
     link: usize,

@@ -29,7 +29,7 @@ fn answer_kept<W: Weight>(filing: &Filing<W>, marks: &mut [u8]) -> Answer<W>
 {
     let plan = filing.plan();
     let n = plan.unit_count();
-    filing.kept().write(marks, n);
+    filing.kept().write(&mut marks[..n]);
     Answer {
         figure: plan.cut(&marks[0..n]),
         mergers: 0,

@@ -174,7 +174,7 @@ impl<'a, W: Weight> Filing<'a, W> {
         ensures sides { take self.old.plan.unit_count self.new.kept.sides ≡ take self.old.plan.unit_count marks.now }
     {
         let n = self.plan.unit_count();
-        self.kept.keep(marks, n);
+        self.kept.keep(&marks[..n]);
     }
 
     // Writes back the marks of all links, as they were copied out; kept marks are not touched.

@@ -1,5 +1,5 @@
 // The marks that a plan keeps of its last weakest division, and what becomes of them by an edit.
-ghost use Rattle.std.specs.Prelude.{◌≡◌, ℕ, ◌<◌, ◌≤◌, true, false, ◌&&◌, length, take, drop};
+ghost use Rattle.std.specs.Prelude.{◌≡◌, ℕ, ◌<◌, ◌≤◌, true, false, ◌&&◌, length, take};
 ghost use Rattle.filings.specs.Edits.{ends_of, is_one_side, outlives, Within};
 
 use plans::plan::Link;
@@ -103,26 +103,24 @@ impl Kept {
         self.sides[link.first] == self.sides[link.second]
     }
 
-    // Keeps the marks of the first n units. So many, and not one slice of them, as in `write`.
-    pub fn keep(&mut self, marks: &[u8], n: usize)
-        requires most { n ≤ 64 }
-        requires size { n ≤ length marks.now }
+    // Keeps the marks of units, one for each.
+    pub fn keep(&mut self, marks: &[u8])
+        requires { length marks.now ≤ 64 }
         ensures kept { self.new.kept ≡ true }
-        ensures sides { take n self.new.sides ≡ take n marks.now }
+        ensures sides { take (length marks.now) self.new.sides ≡ marks.now }
         ensures size { length self.new.sides ≡ 64 }
     {
-        self.sides[..n].copy_from_slice(&marks[..n]);
+        let units = marks.len();
+        self.sides[..units].copy_from_slice(marks);
         self.kept = true;
     }
 
-    // Writes the kept marks of the first n units. So many, and not one slice of them: tried, and what the caller's marks hold
-    // after a part of them was lent on did not come out.
-    pub fn write(&self, marks: &mut [u8], n: usize)
-        requires most { n ≤ 64 }
-        requires size { n ≤ length marks.old }
-        ensures front { take n marks.new ≡ take n self.now.sides }
-        ensures rest { drop n marks.new ≡ drop n marks.old }
+    // Writes the kept marks of as many units as there is room for.
+    pub fn write(&self, marks: &mut [u8])
+        requires { length marks.old ≤ 64 }
+        ensures { marks.new ≡ take (length marks.old) self.now.sides }
     {
-        marks[..n].copy_from_slice(&self.sides[..n]);
+        let units = marks.len();
+        marks.copy_from_slice(&self.sides[..units]);
     }
 }

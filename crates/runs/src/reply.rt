@@ -17,6 +17,7 @@ pub enum Reply<W> {
         marks: Vec<u8>,
         record: Vec<Entry>,
         scans: usize,
+        // a flag, as in the answer
         kept: bool,
     },
     Refused(Refusal),
