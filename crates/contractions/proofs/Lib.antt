@@ -1,3 +1,4 @@
+pub mod Marked
 pub mod Merging
 pub mod Founds
 pub mod Sparing

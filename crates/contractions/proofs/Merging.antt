@@ -7,14 +7,18 @@ use Rattle.cuts.specs.declared.entry.Entry.{Entry}
 use Rattle.cuts.specs.Kinds.{kind_of}
 use Rattle.cuts.specs.Links.{Link}
 use Rattle.cuts.specs.Divisions.{weight_of}
-use Rattle.cuts.specs.Groups.{group, stands}
+use Rattle.cuts.specs.Groups.{group, stands, Joins}
 use Rattle.cuts.specs.Records.{Point, better, merge}
-use Rattle.cuts.proofs.Names.{named, joins_more, stands_more}
+use Rattle.cuts.proofs.Names.{named, named_more, joins_more, stands_more}
 use Rattle.cuts.proofs.Mergers.{length_more}
 use Rattle.tables.specs.declared.groups.Groups.{Groups}
 use Rattle.tables.specs.Meaning.{at, Tracks, Holds, Explains}
 use Rattle.contractions.specs.declared.progress.Progress.{Progress}
 use Rattle.contractions.specs.Progress.{Marks, At}
+
+-- two groups that stand leave room for a merger
+pub merger_room : (n : ℕ) (es : List Entry) (e : Entry) → Joins n [] es → stands n es e.low ≡ true → stands n es e.high ≡ true → e.low < e.high → length es < n
+merger_room n es e joins low high less = let after = (named_more n es e (named n es joins) low high less).fewer in let one = length_more es e in omega arith
 
 module _ {W : Type 0} (g : Ghosts W) (n : ℕ) (ls : List (Link g.Value)) (p : Point) (e : Entry)
     (table table' : List W) (groups groups' : Groups) (progress : Progress W) (marks : List ℕ) (entries : List Entry)

@@ -23,3 +23,4 @@ pub mod Outcomes
 pub mod Noted
 pub mod Always
 pub mod Fills
+pub mod Limits

@@ -9,6 +9,7 @@ use Rattle.cuts.specs.Links.{Link, sum, Sound}
 use Rattle.cuts.specs.Divisions.{only, weight_of}
 use Rattle.cuts.specs.Groups.{after, group, stands, degree, joint}
 use Rattle.cuts.specs.Tests.{third, gathered}
+pub use Rattle.cuts.specs.Sums.{joined}
 use Rattle.cuts.proofs.Rules.{weigh, Two, cuts, into, relabel, tie}
 use Rattle.cuts.proofs.Sums.{weigh_none, weigh_add, weigh_same, weigh_over, weigh_relabel, fits_both}
 use Rattle.cuts.proofs.Points.{two_into, within_one, within_more}
@@ -16,11 +17,6 @@ use Rattle.cuts.proofs.Served.{served, links_at, light_at, degree_deg, joint_tie
 use Rattle.cuts.proofs.Names.{Named, merged, after_more}
 use Rattle.cuts.proofs.Grounds.{over_at}
 use Rattle.cuts.proofs.Neighbours.{below, not_below, gather_in, chosen}
-
--- the joint weights of g with the groups below k, added up one by one
-abbrev pub joined : {V : Type 0} → Kind V → ℕ → List (Link V) → List Entry → ℕ → ℕ → V
-joined K n ls es g zero = K.nothing
-joined K n ls es g (suc k) = cond (stands n es k && not (eqb k g)) (K.plus (joined K n ls es g k) (joint K ls es g k)) (joined K n ls es g k)
 
 -- the groups but g, and those below k
 abbrev but : ℕ → List Entry → ℕ → ℕ → Bool

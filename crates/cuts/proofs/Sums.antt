@@ -110,6 +110,9 @@ module _ {V : Type 0} (K : Kind V) (laws : Lawful K) where
 
 -- what users take: the laws, the links, and that they are light enough to be counted twice
 module _ {V : Type 0} (K : Kind V) (laws : Lawful K) (ls : List (ℕ × ℕ × V)) (light : heft K ls + heft K ls ≤ limit) where
+  pub weigh_amount : (f : ℕ → ℕ → ℕ) → Two f → K.amount (weigh K ls f) ≡ count K ls f
+  weigh_amount f two = (weigh_amounts K laws ls f light two).0
+
   pub fits : (f : ℕ → ℕ → ℕ) → Two f → K.amount (weigh K ls f) ≤ limit
   fits f two = let e = weigh_amounts K laws ls f light two in omega arith
 

@@ -4,11 +4,12 @@ use Rattle.std.proofs.lemmas.Bool.Decides.{nat_tests}
 use Rattle.std.proofs.lemmas.Bool.{cases_lt, eqb-false, or_parts, or_cases, leb-true, leb-false}
 use Rattle.weights.specs.Laws.{limit}
 use Rattle.cuts.specs.declared.entry.Entry.{Entry}
+use Rattle.cuts.specs.declared.ground.Ground.{Ground}
 use Rattle.cuts.specs.declared.ground.Ground.TheVariants.{Scan}
 use Rattle.cuts.specs.Kinds.{Kind, Lawful, AtMost, above}
 use Rattle.cuts.specs.Links.{Link, Sound}
 use Rattle.cuts.specs.Divisions.{weight_of}
-use Rattle.cuts.specs.Groups.{after, group, stands, Whole, Joins}
+use Rattle.cuts.specs.Groups.{after, group, stands, Whole, Joins, degree}
 use Rattle.cuts.specs.Scans.{has, key, Order, finds, found, raised}
 use Rattle.cuts.specs.Records.{Point, merger, best_weight, ended, better, merge, merge_found, next_scan, Work, begin, test, scan}
 use Rattle.cuts.specs.Claims.{LosesNothing, RecordLeast}
@@ -168,6 +169,16 @@ module _ {V : Type 0} (K : Kind V) (laws : Lawful K) (n : ℕ) (ls : List (Link 
 -- what holds at each point of the work: names, groups left, and best at most every group's degree
 pub work_named : {V : Type 0} (K : Kind V) (laws : Lawful K) (n : ℕ) (ls : List (Link V)) (sound : Sound K n ls) → 2 ≤ n → {p : Point} → Work K n ls p → Joins n [] p.done × Named n p.done × (length p.done + 2 ≤ n)
 work_named K laws n ls sound two {p} w = let j = merged_joins K laws n ls sound two (work_merged K laws n ls sound two w) in (j.0, named n p.done j.0, j.1)
+
+pub work_best : {V : Type 0} (K : Kind V) (laws : Lawful K) (n : ℕ) (ls : List (Link V)) (sound : Sound K n ls) → 2 ≤ n → {p : Point} → Work K n ls p → (g : ℕ) → stands n p.done g ≡ true → AtMost K (best_weight K n ls p) (degree K ls p.done g)
+work_best K laws n ls sound two w = best_present K laws n ls sound two (work_merged K laws n ls sound two w)
+
+-- an entry whose lower group is given first
+pub merger_ordered : (u v : ℕ) (ground : Ground) (number : ℕ) → u < v → merger u v ground number ≡ record { low = u; high = v; ground = ground; scan = number }
+merger_ordered u v ground number less =
+    let lo : min u v ≡ u = omega arith in
+    let hi : max u v ≡ v = omega arith in
+    rw (lo, hi)
 
 pub record_least : {V : Type 0} (K : Kind V) → Lawful K → RecordLeast K
 record_least K laws n ls sound two p w over =

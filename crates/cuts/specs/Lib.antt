@@ -7,6 +7,7 @@ pub mod Groups
 pub mod Tests
 pub mod Scans
 pub mod Records
+pub mod Sums
 pub mod Claims
 pub mod Outcomes
 pub mod Edits

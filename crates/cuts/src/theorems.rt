@@ -4,6 +4,7 @@ ghost use Rattle.cuts.specs.Claims.{GroundsSafe, ScanSafe, OrderSafe, GroupsName
 ghost use Rattle.cuts.specs.Outcomes.{OutcomePromised};
 ghost use Rattle.cuts.specs.Noted.{NotedSame};
 ghost use Rattle.cuts.specs.Edits.{ChangeKeeps, EditsKeep};
+ghost use Rattle.cuts.specs.Sums.{NoSumRefused};
 
 use weights::weight::Weight;
 
@@ -31,6 +32,12 @@ pub fn groups_are_named()
 // Every scan of the work finds a pair and merges it, so that the work comes to an end.
 pub fn scan_merges<W: Weight>()
     ensures { ScanMerges (kind_of W.Weight) }
+{}
+
+// No sum of the work is refused, as the links of a plan are light enough: none in filling the table, in a merger, in a
+// test or in a scan. Nor is one in which a division is weighed.
+pub fn no_sum_is_refused<W: Weight>()
+    ensures { NoSumRefused (kind_of W.Weight) }
 {}
 
 // The record theorem: where the work ends, best is a weakest division, and at the start and after each merger the

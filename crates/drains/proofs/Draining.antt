@@ -3,8 +3,8 @@ use Rattle.std.proofs.Common.{◌≡◌, ℕ, ◌+◌, ◌<◌, Bool, true, fals
 use Rattle.std.proofs.lemmas.List.{append-nil, take_more_set, drop-drop, drop-set-lt}
 use Rattle.std.proofs.lemmas.Map.{update_here, update_apart}
 use Rattle.std.proofs.lemmas.Bool.{cases_eq, cond-true, cond-false, eq-eqb, ne_eqb}
-use Rattle.queues.specs.Keys.{Becomes, Heaviest}
-use Rattle.drains.specs.Outcome.{keys_for, once, NoneAbove, NeverRising}
+use Rattle.queues.specs.Keys.{Empty, Becomes, Heaviest}
+use Rattle.drains.specs.Outcome.{keys_for, once, NoneAbove, NeverRising, Drained}
 
 -- every key that came out is at least k
 abbrev pub NoneBelow : {W : Type 0} → (W → W → Bool) → W → List (ℕ × W) → Type 0
@@ -19,6 +19,12 @@ pub record Draining {W : Type 0} (le : W → W → Bool) (first key : ℕ → Op
 
 pub drain_none : {W : Type 0} (le : W → W → Bool) (key : ℕ → Option W) → Draining le key key []
 drain_none le key = record { entries = λ g. refl; falling = tt; heavier = λ g k e. tt }
+
+pub drain_all : {W : Type 0} (le : W → W → Bool) (first key : ℕ → Option W) (out : List (ℕ × W)) → Empty key → Draining le first key out → Drained le first out
+drain_all le first key out none d = record {
+  entries = λ g. sym (append-nil (keys_for g out)) ∙ ap (λ o. keys_for g out ++ once o) (sym (none g)) ∙ d.entries g;
+  falling = d.falling;
+}
 
 module _ {W : Type 0} (le : W → W → Bool) (p : ℕ × W) where
   none_above_push : (k : W) (out : List (ℕ × W)) → NoneAbove le k out → le p.1 k ≡ true → NoneAbove le k (out ++ (p ∷ []))

@@ -1,6 +1,10 @@
 -- What a look through the groups keeps: which entry is to be taken among those so far.
-use Rattle.std.proofs.Common.{◌≡◌, ℕ, zero, suc, ◌+◌, ◌<◌, ◌≤◌, Bool, true, false, cond, ltb, replicate, Some, None, Option, sym, refl, ap, ◌∙◌, ⊎_elim, arith}
+use Rattle.std.proofs.Common.{◌≡◌, ℕ, zero, suc, ◌+◌, ◌<◌, ◌≤◌, Bool, true, false, cond, ltb, List, length, set, replicate, Some, None, Option, sym, refl, ap, ◌∙◌, ⊎_elim, arith}
+use Rattle.std.proofs.lemmas.List.{get_or-set_same, get_or-set_other}
+use Rattle.std.proofs.lemmas.Map.{update_here, update_apart}
 use Rattle.std.proofs.lemmas.Bool.{cases_lt, cases_eq, cond-true, cond-false, lt-ltb, le-ltb}
+use Rattle.queues.specs.Keys.{Becomes}
+use Rattle.queues.specs.Slots.{Reached}
 use Rattle.queues.proofs.Looking.{clash, true_or}
 use Rattle.queues.proofs.Orders.{Ordered, le_self, le_flip, le_above}
 use Rattle.drains.specs.declared.tied.Tie.{Tie}
@@ -11,6 +15,12 @@ pub keyed_none : {W : Type 0} (n g : ℕ) → keyed {W = W} (replicate n None) g
 keyed_none zero g = refl
 keyed_none (suc n) zero = refl
 keyed_none (suc n) (suc g) = keyed_none n g
+
+pub keyed_set : {W : Type 0} (keys : List (Option W)) (g : ℕ) (x : Option W) → g < length keys → Becomes (keyed keys) (keyed (set keys g x)) g x
+keyed_set keys g x room q = ⊎_elim
+    (λ (e : q ≡ g). rw e (get_or-set_same keys g x None room ∙ sym (update_here (keyed keys) g x)))
+    (λ (ne : q ≡ g → ⊥). get_or-set_other keys g q x None ne ∙ sym (update_apart (keyed keys) g x q ne))
+    (cases_eq q g)
 
 -- the entries of the groups below i
 abbrev pub up_to : {W : Type 0} → (ℕ → Option W) → ℕ → ℕ → Option W
@@ -41,11 +51,18 @@ module _ {W : Type 0} (key : ℕ → Option W) where
       (cases_lt g i)
 
 module _ {W : Type 0} (le : W → W → Bool) (laws : Ordered le) (tie : Tie) (key : ℕ → Option W) where
+  pub pick_none : Picked le tie (up_to key 0) None
+  pick_none g = past key 0 g (omega arith)
+
   pub pick_skip : (i : ℕ) → key i ≡ None → (o : Option (ℕ × W)) → Picked le tie (up_to key i) o → Picked le tie (up_to key (i + 1)) o
   pick_skip i none o p = picked_same le tie (up_to key i) (up_to key (i + 1)) (λ g. ⊎_elim (λ (e : g ≡ i). rw e (under key (i + 1) i (omega arith) ∙ none ∙ sym (past key i i (omega arith)))) (λ (ne : g ≡ i → ⊥). other key i g ne) (cases_eq g i)) o p
 
   pub pick_all : ((g : ℕ) → 64 ≤ g → key g ≡ None) → (o : Option (ℕ × W)) → Picked le tie (up_to key 64) o → Picked le tie key o
   pick_all far o p = picked_same le tie (up_to key 64) key (λ g. ⊎_elim (λ (l : g < 64). sym (under key 64 g l)) (λ (m : 64 ≤ g). far g m ∙ sym (past key 64 g m)) (cases_lt g 64)) o p
+
+  pub pick_reached : (i : ℕ) (o : Option (ℕ × W)) → Picked le tie (up_to key i) o → Reached o i
+  pick_reached i None p = tt
+  pick_reached i (Some q) p = entry_under key i q.0 q.1 p.0.here
 
   module _ (i : ℕ) (within : i < 64) (x : W) (is : key i ≡ Some x) where
     new_here : up_to key (i + 1) i ≡ Some x

@@ -14,7 +14,7 @@ use Rattle.plans.proofs.Verdicts.{fails, passes}
 use Rattle.filings.specs.declared.filing.Filing.{Filing}
 use Rattle.filings.specs.declared.kept.Edit.{Edit}
 use Rattle.filings.specs.Edits.{outlives, outlive_at}
-use Rattle.filings.specs.Filed.{Filed, Marks}
+use Rattle.filings.specs.Filed.{Filed, Current, Marks}
 use Rattle.filings.proofs.Parting.{outlive_at_lem}
 use Rattle.filings.proofs.Staying.{Fairly, fair_plan}
 
@@ -38,17 +38,24 @@ in_model p k l h is = (rw (link_size_lem p) h, is ∙ sym (get_or-take p.link_co
 pub outlives_it : {W : Type 0} {g : Ghosts W} (p : Plan W g) (sides : List ℕ) (edit : Link W → Edit) (k : ℕ) (l : Link W) → k < p.link_count → l ≡ get_or p.links.now k l → outlives sides (edit l) ≡ outlive_at sides edit (model_of p).links k
 outlives_it p sides edit k l h is = let m = in_model p k l h is in sym (outlive_at_lem sides edit (model_of p).links k l m.0 m.1)
 
+-- marks that stay are those of a weakest division of the new plan
+pub stays_current : {W : Type 0} {g : Ghosts W} (before after : Filing W g) (stay : Bool) (next : Model W) → model_of after.plan ≡ next
+    → after.kept.kept ≡ (before.kept.kept && stay) → after.kept.sides ≡ before.kept.sides
+    → (Fairly g (model_of before.plan) → Fairly g next → Marks g (model_of before.plan) before.kept.sides → stay ≡ true → Marks g next before.kept.sides)
+    → Current g before → Current g after
+stays_current {g = g} before after stay next is kept sides keeps current flag =
+    let both = and_parts before.kept.kept stay (sym kept ∙ flag) in
+    let new = keeps (fair_plan before.plan) (subst (λ m. Fairly g m) is (fair_plan after.plan)) (current both.0) both.1 in
+    subst (λ m. Marks g m after.kept.sides) (sym is) (subst (λ xs. Marks g next xs) (sym sides) new)
+
 -- a filing whose marks stay as the table says keeps what every filing keeps
 pub stays_filed : {W : Type 0} {g : Ghosts W} (before after : Filing W g) (stay : Bool) (next : Model W) → model_of after.plan ≡ next
     → after.kept.kept ≡ (before.kept.kept && stay) → after.kept.sides ≡ before.kept.sides
     → (Fairly g (model_of before.plan) → Fairly g next → Marks g (model_of before.plan) before.kept.sides → stay ≡ true → Marks g next before.kept.sides)
     → Filed g before → Filed g after
-stays_filed {g = g} before after stay next is kept sides keeps filed = record {
+stays_filed before after stay next is kept sides keeps filed = record {
   sides = ap length sides ∙ filed.sides;
-  current = λ flag.
-      let both = and_parts before.kept.kept stay (sym kept ∙ flag) in
-      let new = keeps (fair_plan before.plan) (subst (λ m. Fairly g m) is (fair_plan after.plan)) (filed.current both.0) both.1 in
-      subst (λ m. Marks g m after.kept.sides) (sym is) (subst (λ xs. Marks g next xs) (sym sides) new);
+  current = stays_current before after stay next is kept sides keeps filed.current;
 }
 
 -- a mark below 2 is 1 where it is not 0

@@ -10,7 +10,7 @@ use Rattle.heaps.specs.Heaped.{key_under, Here, Agrees}
 use Rattle.queues.proofs.Looking.{clash}
 use Rattle.heaps.proofs.Order.{one}
 use Rattle.heaps.proofs.Pigeons.{pigeons}
-use Rattle.heaps.proofs.Tables.{key_in, key_past, key_becomes}
+use Rattle.heaps.proofs.Tables.{Spot, spot, key_in, key_past, key_becomes}
 
 -- the table after a write
 abbrev pub Sends : {W : Type 0} → (ℕ → ℕ) → (ℕ → ℕ) → HeapEntry W → ℕ → Type 0
@@ -95,6 +95,17 @@ module _ {W : Type 0} (at at' : ℕ → Option (HeapEntry W)) (place place' : �
   pub push_agrees : Agrees at' place' (n + 1)
   push_agrees = record { fits = all_fit at' place' (n + 1) push_here; here = push_here }
 
+  pub push_keys : Becomes (key_under at place n) (key_under at' place' (n + 1)) e.group (Some e.key)
+  push_keys = key_becomes at place n at' place' (n + 1) was push_agrees e.group (Some e.key)
+      (key_in at' place' (n + 1) push_agrees n e.group e (omega arith) (w n ∙ update_here at n (Some e)) refl)
+      (λ q ne i x lt is own. (i, omega arith, push_other i lt ∙ is))
+      (λ q ne i x lt is own. ⊎_elim
+      (λ (same : i ≡ n). let z : x ≡ e = one is (ap at' same ∙ w n ∙ update_here at n (Some e)) in absurd (ne (sym own ∙ ap (λ (y : HeapEntry W). y.group) z)))
+      (λ (np : i ≡ n → ⊥).
+      let under : i < n = ⊎_elim (λ (l : i < n). l) (λ (m : n ≤ i). absurd (np (omega arith))) (cases_lt i n) in
+      (i, under, sym (push_other i under) ∙ is))
+      (cases_eq i n))
+
 -- where a group does not wait, there is room for an entry
 pub room_left : {W : Type 0} (at : ℕ → Option (HeapEntry W)) (place : ℕ → ℕ) (n : ℕ) (e : HeapEntry W) → Agrees at place n → e.group < 64 → key_under at place n e.group ≡ None → n < 64
 room_left at place n e was low none =
@@ -147,3 +158,10 @@ module _ {W : Type 0} (at : ℕ → Option (HeapEntry W)) (place : ℕ → ℕ) 
       (λ (np : i ≡ m → ⊥). (i, ⊎_elim (λ (l : i < m). l) (λ (k : m ≤ i). absurd (np (omega arith))) (cases_lt i m), here))
       (cases_eq i m))
       (λ q ne i x lt here own. (i, omega arith, here))
+
+-- no group from 64 on waits
+pub key_far : {W : Type 0} (at : ℕ → Option (HeapEntry W)) (place : ℕ → ℕ) (n g : ℕ) → Agrees at place n → 64 ≤ g → key_under at place n g ≡ None
+key_far at place n g was far = ⊎_elim
+    (λ (s : Spot at n g). let low = (agrees_at at place n was s.place s.entry s.under s.is).0 in let own = s.own in absurd (omega arith))
+    (λ none. none)
+    (spot at place n g)

@@ -1,6 +1,6 @@
 -- Sifting up and down keeps the order but at one place, and the first of all stands at the top.
-use Rattle.std.proofs.Common.{◌≡◌, ℕ, zero, suc, ◌-◌, ◌/◌, ◌<◌, Bool, true, false, Some, Option, sym, ap, ◌∙◌, ⊎_elim, arith}
-use Rattle.std.proofs.lemmas.Bool.{cases_eq}
+use Rattle.std.proofs.Common.{◌≡◌, ℕ, zero, suc, ◌+◌, ◌-◌, ◌/◌, ◌<◌, ◌≤◌, Bool, true, false, Some, Option, sym, ap, ◌∙◌, ⊎_elim, arith}
+use Rattle.std.proofs.lemmas.Bool.{cases_eq, cases_lt}
 use Rattle.heaps.specs.Tree.{Child, Below, InOrder, Rising, Sinking, Swapped}
 use Rattle.std.proofs.lemmas.Map.{update_here, update_apart}
 use Rattle.queues.specs.Keys.{Becomes}
@@ -14,6 +14,12 @@ pub parent_of : (i : ℕ) → 0 < i → Child ((i - 1) / 2) i
 parent_of i h = (omega arith, omega arith)
 
 module _ {X : Type 0} (first : X → X → Bool) (ranks : Ranked first) (at : ℕ → Option X) (n : ℕ) where
+  pub rise_end : (i : ℕ) → Rising first at n i → ((p : ℕ) → Child p i → Below first at p i) → InOrder first at n
+  rise_end i r last p c child lt = ⊎_elim
+      (λ (e : c ≡ i). rw e (last p (rw e at child)))
+      (λ (ne : c ≡ i → ⊥). r.others p c child lt ne)
+      (cases_eq c i)
+
   pub sink_end : (i : ℕ) → Sinking first at n i → ((c : ℕ) → Child i c → c < n → Below first at i c) → InOrder first at n
   sink_end i r last p c child lt = ⊎_elim
       (λ (e : p ≡ i). rw e (last c (rw e at child) lt))
@@ -100,8 +106,16 @@ module _ {X : Type 0} (first : X → X → Bool) (ranks : Ranked first) (at : �
   pub top_first : InOrder first at n → ((j : ℕ) → j < n → (z : X) × (at j ≡ Some z)) → (i : ℕ) → i < n → (a b : X) → at 0 ≡ Some a → at i ≡ Some b → first b a ≡ false
   top_first order all i lt a b ta ib = top_to (suc i) i order all (omega arith) lt a b ta ib
 
--- how a heavier key disturbs the order
+-- how a new entry, a heavier key and a removal disturb the order
 module _ {X : Type 0} (first : X → X → Bool) (at after : ℕ → Option X) (n : ℕ) (order : InOrder first at n) where
+  pub rising_new : (x : X) → Becomes at after n (Some x) → Rising first after (n + 1) n
+  rising_new x w = record {
+    others = λ p c child lt ne a b pa cb.
+        let under : c < n = ⊎_elim (λ (l : c < n). l) (λ (m : n ≤ c). absurd (ne (omega arith))) (cases_lt c n) in
+        order p c child under a b (sym (w p ∙ update_apart at n (Some x) p (λ z. omega arith)) ∙ pa) (sym (w c ∙ update_apart at n (Some x) c ne) ∙ cb);
+    across = λ p c up child lt. absurd (omega arith);
+  }
+
   pub rising_raised : Ranked first → (i : ℕ) (x y : X) → at i ≡ Some x → first x y ≡ false → Becomes at after i (Some y) → Rising first after n i
   rising_raised ranks i x y ix less w = record {
     others = λ p c child lt ne a b pa cb.
@@ -116,4 +130,11 @@ module _ {X : Type 0} (first : X → X → Bool) (at after : ℕ → Option X) (
         let oldp : at p ≡ Some a = sym (w p ∙ update_apart at i (Some y) p (λ z. omega arith)) ∙ pa in
         let oldc : at c ≡ Some b = sym (w c ∙ update_apart at i (Some y) c (λ z. omega arith)) ∙ cb in
         ranks.chain b x a (order i c child lt x b ix oldc) (order p i up (omega arith) a x oldp ix);
+  }
+
+  pub sinking_last : (m : ℕ) → n ≡ m + 1 → Swapped at after 0 m → Sinking first after m 0
+  sinking_last m less s = record {
+    others = λ p c child lt ne a b pa cb.
+        order p c child (omega arith) a b (sym (s.rest p ne (λ z. omega arith)) ∙ pa) (sym (s.rest c (λ z. omega arith) (λ z. omega arith)) ∙ cb);
+    across = λ p c up child lt. absurd (omega arith);
   }

@@ -1,6 +1,7 @@
 -- The order of entries, heavier first and then the lower group, is one: what need not come before what need not come before a third need not come before that.
-use Rattle.std.proofs.Common.{◌≡◌, ℕ, ◌<◌, ◌≤◌, Bool, true, false, cond, ltb, refl, ⊎_elim, arith}
+use Rattle.std.proofs.Common.{◌≡◌, ℕ, ◌+◌, ◌<◌, ◌≤◌, Bool, true, false, cond, ltb, refl, ⊎_elim, arith}
 use Rattle.std.proofs.lemmas.Bool.{ltb-true, ltb-false, le-ltb, cases_Bool}
+use Rattle.weights.specs.Laws.{Laws, limit}
 use Rattle.queues.proofs.Orders.{Ordered}
 use Rattle.queues.proofs.Looking.{true_or}
 use Rattle.heaps.specs.declared.entry.HeapEntry.{HeapEntry}
@@ -66,3 +67,10 @@ module _ {W : Type 0} (le : W → W → Bool) (laws : Ordered le) where
   -- an entry need not come before itself with a heavier key
   pub before_raised : (a b : HeapEntry W) → a.group ≡ b.group → le a.key b.key ≡ true → before le a b ≡ false
   before_raised a b same h = later_from (le a.key b.key) (le b.key a.key) a.group b.group h (λ _. omega arith)
+
+-- a sum is at least as heavy as its first part
+pub le_sum : {V : Type 0} {zero : V} {plus : V → V → V} {le : V → V → Bool} {size : V → ℕ} → Laws zero plus le size → (a b : V) → size a + size b ≤ limit → le a (plus a b) ≡ true
+le_sum {V} {zero} {plus} {le} {size} laws a b h =
+    let z = laws.none in
+    let g = laws.grow zero b a (omega arith) (omega arith) (laws.least b (omega arith)) in
+    rw (laws.neutral a (omega arith), laws.comm b a (omega arith)) at g

@@ -41,6 +41,9 @@ module _ {V : Type 0} (K : Kind V) (n : ℕ) (ls : List (Link V)) (es : List Ent
   failed : (ground : Ground) → Found false ground → Meets K n ls es best u v ground → ⊥
   failed ground (test, decides, came) = not_from_Decides test decides came
 
+  pub heavy_judged : Found true Heavy → Judged K n ls es best u v (Some Heavy)
+  heavy_judged m = (met Heavy m, each (NotLower Heavy) (λ o lt. omega arith) (λ o lt. omega arith) (λ o lt. omega arith) (λ o lt. omega arith) (λ o lt. omega arith))
+
   pub unbalanced_judged : Found false Heavy → Found true Unbalanced → Judged K n ls es best u v (Some Unbalanced)
   unbalanced_judged a m = (met Unbalanced m, each (NotLower Unbalanced) (λ o lt. failed Heavy a o) (λ o lt. omega arith) (λ o lt. omega arith) (λ o lt. omega arith) (λ o lt. omega arith))
 
@@ -86,17 +89,19 @@ pub neighbourhood_decided : {V : Type 0} (K : Kind V) (n : ℕ) (ls : List (Link
 neighbourhood_decided K n ls es best u v k s r sum all t = Decides-at r _ (t ∙ ap (K.at_most best) (sum ∙ ap (gathered K n ls es u v) all)) (itself _)
 
 -- the two tests that look at no third group
-module _ {W : Type 0} {g : Ghosts W} {n : ℕ} {ls : List (Link g.Value)} {es : List Entry} {table : List W} {groups : Groups} (laws : Lawful (kind_of g)) (ex : Explains g n ls es table groups) {u v : ℕ} (pair : Standing groups n u v) (best x : g.Value) (here : x ≡ at g table n u v) where
-  heavy_decided : (r : Bool) → r ≡ g.le best x → Decides r (Meets (kind_of g) n ls es best u v Heavy)
-  heavy_decided r t = Decides-at r _ (t ∙ ap (g.le best) (here ∙ joint_at ex pair)) (itself _)
+module _ {W : Type 0} {g : Ghosts W} {n : ℕ} {ls : List (Link g.Value)} {es : List Entry} {table : List W} {groups : Groups} (ex : Explains g n ls es table groups) {u v : ℕ} (pair : Standing groups n u v) (best x : g.Value) (here : x ≡ at g table n u v) (r : Bool) where
+  pub heavy_decided : r ≡ g.le best x → Decides r (Meets (kind_of g) n ls es best u v Heavy)
+  heavy_decided t = Decides-at r _ (t ∙ ap (g.le best) (here ∙ joint_at ex pair)) (itself _)
 
-  unbalanced_decided : (a b : g.Value) (r : Bool) → a ≡ at g table n u u → b ≡ at g table n v v → (g.size x + g.size x ≤ limit → r ≡ (g.le a (g.plus x x) || g.le b (g.plus x x))) → Decides r (Meets (kind_of g) n ls es best u v Unbalanced)
-  unbalanced_decided a b r p q t =
+  pub unbalanced_decided : (a b : g.Value) → a ≡ at g table n u u → b ≡ at g table n v v → r ≡ (g.le a (g.plus x x) || g.le b (g.plus x x)) → Decides r (Meets (kind_of g) n ls es best u v Unbalanced)
+  unbalanced_decided a b p q t =
       let joined = here ∙ joint_at ex pair in
       let low = ap₂ (λ d y. g.le d (g.plus y y)) (p ∙ degree_low ex pair) joined in
       let high = ap₂ (λ d y. g.le d (g.plus y y)) (q ∙ degree_high ex pair) joined in
-      Decides-at r _ (t (twice_fits laws ex pair x here) ∙ ap₂ ◌||◌ low high) (Decides-or _ _ (itself _) (itself _))
+      Decides-at r _ (t ∙ ap₂ ◌||◌ low high) (Decides-or _ _ (itself _) (itself _))
 
+-- both, where the sum that the second forms is the sum if it is not refused
+module _ {W : Type 0} {g : Ghosts W} {n : ℕ} {ls : List (Link g.Value)} {es : List Entry} {table : List W} {groups : Groups} (laws : Lawful (kind_of g)) (ex : Explains g n ls es table groups) {u v : ℕ} (pair : Standing groups n u v) (best x : g.Value) (here : x ≡ at g table n u v) where
   pub two_decided : (h r : Bool) (a b : g.Value) → h ≡ g.le best x → a ≡ at g table n u u → b ≡ at g table n v v → (g.size x + g.size x ≤ limit → r ≡ (g.le a (g.plus x x) || g.le b (g.plus x x)))
       → Decides h (Meets (kind_of g) n ls es best u v Heavy) × Decides r (Meets (kind_of g) n ls es best u v Unbalanced)
-  two_decided h r a b heavy p q t = (heavy_decided h heavy, unbalanced_decided a b r p q t)
+  two_decided h r a b heavy p q t = (heavy_decided ex pair best x here h heavy, unbalanced_decided ex pair best x here r a b p q (t (twice_fits laws ex pair x here)))

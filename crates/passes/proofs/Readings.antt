@@ -1,11 +1,11 @@
 -- What a table and groups that a plan explains say of a pair of groups.
-use Rattle.std.proofs.Common.{◌≡◌, ℕ, ◌+◌, ◌<◌, Bool, true, false, not, ◌&&◌, ◌||◌, eqb, List, get_or, sym, ap, ◌∙◌, ap₂, add-one, arith}
+use Rattle.std.proofs.Common.{◌≡◌, ℕ, ◌+◌, ◌<◌, Bool, true, false, cond, not, ◌&&◌, ◌||◌, eqb, List, get_or, sym, ap, ◌∙◌, ap₂, add-one, arith}
 use Rattle.std.proofs.lemmas.Bool.{cond-true, cond-false}
 use Rattle.std.proofs.lemmas.Bool.Decides.{nat_tests}
 use Rattle.weights.specs.declared.weight.Weight.{Ghosts}
 use Rattle.cuts.specs.declared.entry.Entry.{Entry}
 use Rattle.cuts.specs.declared.ground.Ground.{Ground}
-use Rattle.cuts.specs.Kinds.{Kind, kind_of, lesser}
+use Rattle.cuts.specs.Kinds.{Kind, kind_of, above, lesser}
 use Rattle.cuts.specs.Links.{Link}
 use Rattle.cuts.specs.Groups.{stands, degree, joint}
 use Rattle.cuts.specs.Tests.{third, gathered, Pair, Meets}
@@ -36,19 +36,22 @@ module _ {V : Type 0} (K : Kind V) (n : ℕ) (ls : List (Link V)) (es : List Ent
 abbrev pub third_mark : Groups → ℕ → ℕ → ℕ → Bool
 third_mark groups u v w = get_or groups.standing w false && not (eqb w u || eqb w v)
 
+pub standing : (groups : Groups) (n u v : ℕ) → true ≡ get_or groups.standing u false → true ≡ get_or groups.standing v false → u < v → v < n → Standing groups n u v
+standing groups n u v low high order within = record { low = sym low; high = sym high; order = order; within = within }
+
 module _ {W : Type 0} {g : Ghosts W} {n : ℕ} {ls : List (Link g.Value)} {es : List Entry} {table : List W} {groups : Groups} (ex : Explains g n ls es table groups) where
   -- a group is marked as it stands
-  marked : (w : ℕ) (r : Bool) → w < n → r ≡ get_or groups.standing w false → stands n es w ≡ r
+  pub marked : (w : ℕ) (r : Bool) → w < n → r ≡ get_or groups.standing w false → stands n es w ≡ r
   marked w r lt e = sym (e ∙ ex.tracks.standing w lt)
 
   pub third_marked : (u v w : ℕ) (r : Bool) → w < n → r ≡ third_mark groups u v w → third n es u v w ≡ r
   third_marked u v w r lt e = sym (e ∙ ap (λ s. s && not (eqb w u || eqb w v)) (ex.tracks.standing w lt))
 
   module _ {u v : ℕ} (pair : Standing groups n u v) where
-    low : stands n es u ≡ true
+    pub low : stands n es u ≡ true
     low = marked u true (omega arith) (sym pair.low)
 
-    high : stands n es v ≡ true
+    pub high : stands n es v ≡ true
     high = marked v true pair.within (sym pair.high)
 
     pub apart : u ≡ v → ⊥
@@ -56,6 +59,10 @@ module _ {W : Type 0} {g : Ghosts W} {n : ℕ} {ls : List (Link g.Value)} {es : 
 
     pub joint_at : at g table n u v ≡ joint (kind_of g) ls es u v
     joint_at = ex.holds.joints u v low high apart
+
+    -- whether the joint weight is above nothing
+    pub above_at : (x y : g.Value) (r : Bool) → x ≡ at g table n u v → y ≡ g.zero → r ≡ g.le x y → above (kind_of g) (joint (kind_of g) ls es u v) ≡ cond r false true
+    above_at x y r here none t = sym (ap (λ b. cond b false true) (t ∙ ap₂ g.le (here ∙ joint_at) none))
 
     pub degree_low : at g table n u u ≡ degree (kind_of g) ls es u
     degree_low = ex.holds.degrees u low

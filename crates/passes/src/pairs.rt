@@ -10,13 +10,13 @@ ghost use Rattle.tables.specs.Meaning.{ExplainsIn};
 use crate::pair::Pair;
 use cuts::ground::Ground;
 use tables::graph::Graph;
-use weights::weight::{Weight, add};
+use weights::weight::Weight;
 
 // Whether a degree is at most twice a weight.
 pub(crate) fn within_twice<W: Weight>(degree: W, weight: W) -> bool
     ensures { W.Weight.size (W.Weight.value weight) + W.Weight.size (W.Weight.value weight) ≤ limit → result ≡ W.Weight.le (W.Weight.value degree) (W.Weight.plus (W.Weight.value weight) (W.Weight.value weight)) }
 {
-    degree.at_most(add(weight, weight))
+    weight.sum(weight).is_ok_and(|twice| degree.at_most(twice))
 }
 
 // Unbalanced: the degree of one of two groups is at most twice their joint weight.

@@ -1,6 +1,6 @@
 -- Codes stay distinct, and the codes after a change of one unit.
-use Rattle.std.proofs.Common.{◌≡◌, ℕ, zero, suc, ◌+◌, ◌<◌, ◌≤◌, false, not, eqb, List, [], ◌∷◌, ◌++◌, map, length, get_or, take, set, sym, ap, ◌∙◌, subst, ⊎_elim, arith}
-use lib.Seq.{get_or-append_seam, take-set-lt}
+use Rattle.std.proofs.Common.{◌≡◌, ℕ, zero, suc, ◌+◌, ◌<◌, ◌≤◌, false, not, eqb, List, [], ◌∷◌, ◌++◌, map, length, get_or, take, set, sym, refl, ap, ◌∙◌, subst, ⊎_elim, arith}
+use lib.Seq.{get_or-append_seam}
 use Rattle.std.proofs.lemmas.List.{map-append, map-set, take_more_set, get_or_append_left, get_or-set_same, get_or-set_other, length-set, length-append}
 use Rattle.std.proofs.lemmas.Bool.{ne_eqb, and_from, or_parts, both_ways, cases_lt, cases_eq}
 use Rattle.plans.specs.declared.plan.Unit.{Unit}
@@ -41,10 +41,20 @@ distinct_set text cs k lk d h i j li lj e =
     (λ (p : i ≡ k → ⊥). ⊎_elim (λ (q : j ≡ k). absurd (clash i j li' p (sym q) e)) (λ (q : j ≡ k → ⊥). d i j li' lj' (sym (old i p) ∙ (e ∙ old j q))) (cases_eq j k))
     (cases_eq i k)
 
+pub take_of_set : {X : Type 0} (n : ℕ) (xs : List X) (k : ℕ) (y : X) → take n (set xs k y) ≡ set (take n xs) k y
+take_of_set zero xs k y = refl
+take_of_set (suc n) [] k y = refl
+take_of_set (suc n) (x ∷ xs) zero y = refl
+take_of_set (suc n) (x ∷ xs) (suc k) y = ap (λ ys. x ∷ ys) (take_of_set n xs k y)
+
 -- the codes with one unit more
 pub codes_more : (us : List Unit) (n : ℕ) (u : Unit) (text : List ℕ) → n < length us → code_of u ≡ text → map code_of (take (n + 1) (set us n u)) ≡ map code_of (take n us) ++ (text ∷ [])
 codes_more us n u text room is = ap (map code_of) (take_more_set us n u room) ∙ (map-append code_of (take n us) (u ∷ []) ∙ ap (λ t. map code_of (take n us) ++ (t ∷ [])) is)
 
--- the codes with one unit changed
+-- the codes with one unit changed, whatever its number
+pub codes_set_any : (us : List Unit) (n k : ℕ) (u : Unit) (text : List ℕ) → code_of u ≡ text → map code_of (take n (set us k u)) ≡ set (map code_of (take n us)) k text
+codes_set_any us n k u text is = ap (map code_of) (take_of_set n us k u) ∙ (map-set code_of (take n us) k u ∙ ap (set (map code_of (take n us)) k) is)
+
+-- the same of one of the first n units
 pub codes_set : (us : List Unit) (n k : ℕ) (u : Unit) (text : List ℕ) → k < n → code_of u ≡ text → map code_of (take n (set us k u)) ≡ set (map code_of (take n us)) k text
-codes_set us n k u text in-it is = ap (map code_of) (take-set-lt n us k u in-it) ∙ (map-set code_of (take n us) k u ∙ ap (set (map code_of (take n us)) k) is)
+codes_set us n k u text in-it is = codes_set_any us n k u text is

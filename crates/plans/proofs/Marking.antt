@@ -33,6 +33,9 @@ sound_marked {g = g} p k b d h =
     (let l = p.sound.limited in omega arith)
 
 module _ {W : Type 0} {g : Ghosts W} (marks : List ℕ) (before : Plan W g) where
+  pub marked_none : MarkedTo marks before 0 before
+  marked_none = record { marked = λ j d lt. absurd (omega arith); rest = λ j d le. refl; size = refl; units = refl; unit_count = refl; link_count = refl; total = refl }
+
   -- one link more
   pub marked_more : (i : ℕ) (b : Bool) (p q : Plan W g) (e : Link W) → MarkedTo marks before i p → i < length p.links.now → b ≡ eqb (get_or marks i 0) 1
       → q.links.now ≡ set p.links.now i (with_mark (get_or p.links.now i e) b)

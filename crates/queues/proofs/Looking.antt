@@ -1,7 +1,7 @@
 -- What a look through the entries keeps: the best entry so far.
 use Rattle.std.proofs.Common.{◌≡◌, ℕ, ◌<◌, ◌≤◌, Bool, true, false, cond, Some, None, Option, sym, refl, ap, ◌∙◌, ⊎_elim, arith}
 use Rattle.std.proofs.lemmas.Bool.{cases_lt, cases_eq}
-use Rattle.queues.specs.Keys.{Becomes}
+use Rattle.queues.specs.Keys.{Becomes, Leads, Taken}
 use Rattle.queues.specs.Slots.{Best, beats}
 use Rattle.queues.proofs.Orders.{Ordered, le_self, le_flip, le_above}
 use Rattle.std.proofs.lemmas.Map.{update_here, update_apart}
@@ -80,3 +80,6 @@ module _ {W : Type 0} (le : W → W → Bool) (laws : Ordered le) (before after 
           },
           λ h v lt there. le_above laws x p.1 v less (b.0.most h v (sym (now_else h (λ s. omega arith)) ∙ there)),
         )
+
+pub taken_some : {W : Type 0} (le : W → W → Bool) (before after : ℕ → Option W) (o : Option (ℕ × W)) (p : ℕ × W) → o ≡ Some p → p.0 < 64 → Leads le before p.0 p.1 → Becomes before after p.0 None → Taken le before after o
+taken_some le before after o p e low h b = rw e (record { group = low; here = h.here; most = h.most }, b)

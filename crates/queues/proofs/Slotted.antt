@@ -1,5 +1,5 @@
 -- What slots hold after a write, and below a reach.
-use Rattle.std.proofs.Common.{◌≡◌, ℕ, zero, suc, ◌+◌, ◌<◌, ◌≤◌, cond, eqb, ltb, List, [], ◌∷◌, ◌++◌, length, replicate, get_or, take, set, None, Option, sym, refl, ap, ◌∙◌, ⊎_elim, arith}
+use Rattle.std.proofs.Common.{◌≡◌, ℕ, zero, suc, ◌+◌, ◌<◌, ◌≤◌, true, false, cond, eqb, ltb, List, [], ◌∷◌, ◌++◌, length, replicate, get_or, take, set, is_some, Some, None, Option, sym, refl, ap, ◌∙◌, ⊎_elim, arith}
 use lib.Dec.{eqb-zero-suc, eqb-suc-zero, eqb-suc-suc}
 use Rattle.std.proofs.lemmas.Bool.{cases_eq, cases_lt, cond-true, cond-false, lt-ltb, le-ltb}
 use Rattle.std.proofs.lemmas.Bool.Decides.{nat_tests}
@@ -55,6 +55,23 @@ module _ {W : Type 0} (ss : List (Slot W)) where
       (λ (same : q ≡ g). rw same (cond-true (ltb g reach) (keyed (set ss g s) g) None (lt-ltb g reach h) ∙ keyed_set ss g g s lt ∙ update_here (keyed ss) g (held s) ∙ sym (update_here (waiting ss reach) g (held s))))
       (λ (ne : q ≡ g → ⊥). ap (λ o. cond (ltb q reach) o None) (keyed_set ss g q s lt ∙ update_apart (keyed ss) g (held s) q ne) ∙ sym (update_apart (waiting ss reach) g (held s) q ne))
       (cases_eq q g)
+
+  -- one slot more counts and is emptied
+  pub emptied_more : (old : List (Slot W)) (from i : ℕ) (s : Slot W) → held s ≡ None → from ≤ i → i < length ss → Unchanged (waiting old from) (waiting ss i) → Unchanged (waiting old from) (waiting (set ss i s) (i + 1))
+  emptied_more old from i s bare le lt same q = ⊎_elim
+      (λ (e : q ≡ i). rw e (cond-true (ltb i (i + 1)) (keyed (set ss i s) i) None (lt-ltb i (i + 1) (omega arith)) ∙ keyed_set ss i i s lt ∙ update_here (keyed ss) i (held s) ∙ bare ∙ sym (cond-false (ltb i from) (keyed old i) None (le-ltb i from le))))
+      (λ (ne : q ≡ i → ⊥).
+      let up : ltb q (i + 1) ≡ ltb q i = grind (arith, nat_tests) in
+      ap (λ b. cond b (keyed (set ss i s) q) None) up ∙ ap (λ o. cond (ltb q i) o None) (keyed_set ss i q s lt ∙ update_apart (keyed ss) i (held s) q ne) ∙ same q)
+      (cases_eq q i)
+
+-- a group that waits stands below the reach
+pub waiting_lt : {W : Type 0} (ss : List (Slot W)) (reach g : ℕ) (v : W) → waiting ss reach g ≡ Some v → g < reach
+waiting_lt ss reach g v e = ⊎_elim (λ (l : g < reach). l) (λ (m : reach ≤ g). let n = waiting_past ss reach g m in let z : ◌≡◌ {A = ℕ} 0 1 = cc in absurd (omega arith)) (cases_lt g reach)
+
+pub none_left : {W : Type 0} (o : Option W) → is_some o ≡ false → o ≡ None
+none_left None e = refl
+none_left (Some v) e = let z : true ≡ false = e in absurd (grind arith)
 
 -- what the slots from a on hold, k of which were emptied
 emptied : {W : Type 0} (a k q : ℕ) (ss rest : List (Slot W)) (s : Slot W) → held s ≡ None → a ≤ length ss → a ≤ q → q < a + k → keyed (take a ss ++ (replicate k s ++ rest)) q ≡ None

@@ -1,5 +1,6 @@
 // The calls, as they are made on a filing, and what is seen of each.
 ghost use Rattle.std.specs.Prelude.{◌≡◌, ◌≤◌, IfOk, [], length, vec_len};
+ghost use Rattle.filings.specs.Filed.{Filed};
 ghost use Rattle.plans.specs.Model.{model_of};
 ghost use Rattle.plans.specs.Sound.{most_links};
 
@@ -78,6 +79,7 @@ impl<W: Weight> Memory<W> {
     // The weakest division, or that with one link out of service, in this memory.
     fn ask(&mut self, filing: &mut Filing<W>, without: Option<usize>) -> Result<Answer<W>, Refusal>
         requires slots { 64 ≤ vec_len self.old.slots }
+        ensures filed { Filed W.Weight filing.old → Filed W.Weight filing.new }
     {
         let mut queue = ListQueue::over(self.slots.as_mut_slice());
         let marks = self.marks.as_mut_slice();
@@ -138,7 +140,8 @@ impl<'a, W: Weight> Caller<'a, W> {
     // A plan with no units.
     pub fn open(heap: Global, links: &'a mut [Link<W>]) -> Caller<'a, W>
         requires { most_links ≤ length links.old }
-        ensures { model_of result.filing.plan ≡ record { codes = []; links = [] } }
+        ensures filed { Filed W.Weight result.filing }
+        ensures model { model_of result.filing.plan ≡ record { codes = []; links = [] } }
     {
         Caller {
             heap,
@@ -148,7 +151,9 @@ impl<'a, W: Weight> Caller<'a, W> {
     }
 
     // Asks in memory of the wanted sizes that is made for it.
-    fn ask(&mut self, without: Option<usize>, lent: Lent) -> Result<Reply, Trouble> {
+    fn ask(&mut self, without: Option<usize>, lent: Lent) -> Result<Reply, Trouble>
+        ensures filed { Filed W.Weight self.old.filing → Filed W.Weight self.new.filing }
+    {
         let mut memory = Memory::new(self.heap, lent)?;
         let outcome = memory.ask(&mut self.filing, without);
         let reply = memory.reply(outcome);
@@ -156,7 +161,9 @@ impl<'a, W: Weight> Caller<'a, W> {
         reply
     }
 
-    fn make(&mut self, call: &Call) -> Result<Reply, Trouble> {
+    fn make(&mut self, call: &Call) -> Result<Reply, Trouble>
+        ensures filed { Filed W.Weight self.old.filing → Filed W.Weight self.new.filing }
+    {
         match call {
             Call::Enter(text) => Ok(Reply::Number(self.filing.enter(text.as_slice())?)),
             Call::Recode(unit, text) => {
@@ -190,7 +197,9 @@ impl<'a, W: Weight> Caller<'a, W> {
     }
 
     // Makes a call.
-    pub fn perform(&mut self, call: &Call) -> Seen {
+    pub fn perform(&mut self, call: &Call) -> Seen
+        ensures filed { Filed W.Weight self.old.filing → Filed W.Weight self.new.filing }
+    {
         let reply = self.make(call);
         let marks = mem::replace(&mut self.marks, Vec::new(self.heap));
         Seen { reply, marks }

@@ -76,7 +76,7 @@ fn run<W: Weight>(
         let none = Err(Trouble::NoMemory);
         ensure!(
             outcome.reply != none && outcome.expected != none,
-            "out of memory"
+            "memory allocation failed"
         );
         tally.note(rt, &call, &outcome)?;
     }

@@ -1,5 +1,5 @@
 -- Reading one code after the other.
-use Rattle.std.proofs.Common.{◌≡◌, ℕ, ◌+◌, ◌<◌, List, [], ◌∷◌, ◌++◌, map, length, take, set, None, Result, sym, refl, ap, ◌∙◌, subst, add-mul, one-mul, add-one, arith}
+use Rattle.std.proofs.Common.{◌≡◌, ℕ, ◌+◌, ◌<◌, List, [], ◌∷◌, ◌++◌, map, length, take, set, None, Result, sym, refl, ap, ◌∙◌, subst, add-mul, one-mul, zero-mul, add-one, arith}
 use Rattle.weights.specs.declared.weight.Weight.{Ghosts}
 use Rattle.codes.specs.declared.code.FaultCode.{FaultCode}
 use Rattle.codes.specs.Held.{bytes_of}
@@ -21,6 +21,9 @@ use Rattle.readers.proofs.Pieces.{at_place}
 pub next_code : (bs : List ℕ) (k : ℕ) → code_place bs k + size_of_code (issue_in bs) ≡ code_place bs (k + 1)
 next_code bs k = let s = size_of_code (issue_in bs) in let p = add-mul k 1 s in let q = one-mul s in omega arith
 
+pub first_code : (bs : List ℕ) → ◌≡◌ {A = ℕ} 9 (code_place bs 0)
+first_code bs = let p = zero-mul (size_of_code (issue_in bs)) in omega arith
+
 -- the codes of the first k units were read
 pub record Coding {W : Type 0} (g : Ghosts W) (bs : List ℕ) (k : ℕ) (c : Cursor) (us : List Record) : Type 0 where
   pub stands : Stands bs (code_place bs k) c
@@ -39,6 +42,9 @@ module _ {W : Type 0} (g : Ghosts W) (bs : List ℕ) where
       let u = subst (λ xs. F j k xs) h (subst (λ m. F j m (map code_of earlier)) n (subst (λ x. F x (length earlier) (map code_of earlier)) e t)) in
       let v = at_place (λ x q. code_verdict k (text_of j (bytes_at x q (size_of_code j))) (texts_in bs k)) (λ x q c. bytes_of c ≡ text_of j (bytes_at x q (size_of_code j))) (part.Unit k) (size_of_code j) r b a bs (code_place bs k) (part.Unit k) s refl u in
       subst (λ n. One g bs (code k) n r a (λ c. bytes_of c ≡ text_in bs k)) (next_code bs k) v
+
+  pub coding_none : (c : Cursor) (us : List Record) → c.bytes.now ≡ bs → c.at ≡ 9 → Coding g bs 0 c us
+  coding_none c us b p = record { stands = record { bytes = b; place = p ∙ first_code bs }; clear = tt; texts = refl }
 
   pub coding_more : {k : ℕ} {c a : Cursor} {us : List Record} (x : FaultCode) → k < length us → Coding g bs k c us
       → fault_of g bs (code k) ≡ None → bytes_of x ≡ text_in bs k → Stands bs (code_place bs (k + 1)) a

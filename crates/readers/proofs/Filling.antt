@@ -1,5 +1,5 @@
 -- Adding one link of a right sheet after the other.
-use Rattle.std.proofs.Common.{◌≡◌, ℕ, zero, suc, ◌+◌, ◌*◌, ◌<◌, ◌≤◌, List, [], ◌∷◌, ◌++◌, length, None, Ok, sym, ap, ◌∙◌, subst, ⊎_elim, add-mul, one-mul, zero-mul, add-one, arith}
+use Rattle.std.proofs.Common.{◌≡◌, ℕ, zero, suc, ◌+◌, ◌*◌, ◌<◌, ◌≤◌, List, [], ◌∷◌, ◌++◌, length, None, Ok, sym, refl, ap, ◌∙◌, subst, ⊎_elim, add-mul, one-mul, zero-mul, add-one, arith}
 use Rattle.std.specs.List.{flat_map, AllByRecursion}
 use Rattle.std.proofs.lemmas.List.{flat_map_more, length_push}
 use Rattle.std.proofs.lemmas.Bool.{cases_lt}
@@ -10,10 +10,11 @@ use Rattle.plans.specs.Calls.{most_total}
 use Rattle.plans.specs.Model.{Model, model_of, amount_of, total_of, linked}
 use Rattle.plans.specs.Sound.{Joins}
 use Rattle.plans.proofs.Totals.{total_append}
-use Rattle.sheets.specs.Fields.{Field, bytes_at, link_fields, link_place, through, total_in, units_in}
+use Rattle.sheets.specs.Fields.{Field, bytes_at, link_fields, link_place, links_in, through, total_in, units_in}
 use Rattle.sheets.specs.Faults.{fault_of, Faultless}
 use Rattle.sheets.specs.Format.{link_bytes, link_size}
 use Rattle.readers.specs.declared.cursor.Cursor.{Cursor}
+use Rattle.readers.specs.Loads.{Loaded}
 use Rattle.readers.specs.Records.{Linked, Reads}
 use Rattle.readers.specs.Steps.{Stands}
 use Rattle.readers.proofs.Pieces.{bytes_join}
@@ -49,6 +50,17 @@ module _ {W : Type 0} (g : Ghosts W) (bs : List ℕ) where
       (λ l. let s : k ≡ n = omega arith in rw s (all_right (λ x. fault_of g bs x ≡ None) (through f n) (f n) h))
       (cases_lt k n)
 
+  pub filling_none : (c : Cursor) (p : Plan W g) → Stands bs (link_place g bs 0) c → (model_of p).links ≡ [] → Filling g bs 0 c 0 (model_of p) p
+  filling_none c p s e = record {
+    stands = s;
+    sum = refl;
+    limited = omega arith;
+    codes = refl;
+    count = ap length e;
+    sums = ap (total_of g) e;
+    bytes = ap (bytes_at bs (link_place g bs 0)) (zero-mul (link_size g)) ∙ sym (ap (flat_map (link_bytes g)) e);
+  }
+
   module _ {k : ℕ} {c a : Cursor} {total : ℕ} {before : Model W} {p : Plan W g} {l : Link W} (was : Filling g bs k c total before p) (t : Reads g bs (link_fields g bs k) (Ok l) a (link_place g bs (k + 1)) (Linked g bs k)) where
     pub can_join : length before.codes ≡ units_in bs → Joins g (length (model_of p).codes) l
     can_join n = subst (λ x. Joins g x l) (sym (ap length was.codes ∙ n)) t.taken.1.joins
@@ -79,3 +91,6 @@ module _ {W : Type 0} (g : Ghosts W) (bs : List ℕ) where
               ∙ (ap (λ x. x ++ link_bytes g l) was.bytes
               ∙ (flat_map_more (link_bytes g) [] ls l ∙ sym (ap (flat_map (link_bytes g)) links))))));
         }
+
+  pub filled : (c : Cursor) (total : ℕ) (before : Model W) (p : Plan W g) → Filling g bs (links_in bs) c total before p → Loaded g bs before (model_of p)
+  filled c total before p h = record { codes = h.codes; count = h.count; bytes = h.bytes }

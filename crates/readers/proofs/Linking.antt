@@ -22,6 +22,9 @@ module _ {W : Type 0} (g : Ghosts W) (bs : List ℕ) where
   pub first_link : code_place bs (units_in bs) ≡ link_place g bs 0
   first_link = let p = zero-mul (link_size g) in omega arith
 
+  pub numbers_start : (k : ℕ) → link_place g bs k + 3 ≡ number_place g bs k 0
+  numbers_start k = omega arith
+
   module _ (k : ℕ) {b a : Cursor} where
     pub first_read : {n : ℕ} {r : Result ℕ Fault} → Stands bs (link_place g bs k) b → b.part ≡ part.Link k → n ≡ units_in bs
         → Took b b.part 1 (end_verdict n (byte_at b.bytes.now b.at)) r a (λ e. (e ≡ byte_at b.bytes.now b.at) × (e < n))

@@ -1,5 +1,5 @@
 -- The calls by which the plan of a right sheet is made are never refused.
-use Rattle.std.proofs.Common.{◌≡◌, ℕ, ◌+◌, ◌<◌, ◌≤◌, true, false, not, List, [], ◌∷◌, ◌++◌, map, length, get_or, take, None, Ok, Option, Result, IsOk, sym, refl, ap, ◌∙◌, subst, arith}
+use Rattle.std.proofs.Common.{◌≡◌, ℕ, ◌+◌, ◌<◌, ◌≤◌, true, false, not, List, [], ◌∷◌, ◌++◌, map, length, get_or, take, None, Ok, Err, Option, Result, IsOk, sym, refl, ap, ◌∙◌, subst, arith}
 use Rattle.std.proofs.lemmas.List.{length_push, length-map, length-take-le, get_or-map, take-map, map_more}
 use Rattle.std.proofs.lemmas.Bool.{lt-ltb, ne_eqb, le-leb, and_from}
 use Rattle.refusals.specs.declared.Refusal.{Refusal}
@@ -16,6 +16,11 @@ use Rattle.plans.proofs.Verdicts.{passes}
 use Rattle.readers.specs.Loads.{Apart}
 
 -- what is accepted is not refused, and does what the call says
+pub not_refused : {X : Type 0} (v : Option Refusal) (x : X) (e : Refusal) → v ≡ None → Err e ≡ reply_of v x → ⊥
+not_refused {X} v x e a h =
+    let q : ◌≡◌ {A = Result X Refusal} (Err e) (Ok x) = h ∙ ap (λ o. reply_of o x) a in
+    let z : ◌≡◌ {A = ℕ} 0 1 = cc in omega arith
+
 module _ {W X : Type 0} {g : Ghosts W} (v : Option Refusal) (x : X) (next : Model W) (p q : Plan W g) (r : Result X Refusal) (a : v ≡ None) (h : Called v x next p r q) where
   pub goes : IsOk r
   goes = subst IsOk (sym (h.reply ∙ ap (λ o. reply_of o x) a)) refl
@@ -48,6 +53,9 @@ module _ {W : Type 0} (g : Ghosts W) (m : Model W) (l : Link W) where
 
   pub mark_fine : mark_verdict (linked served m) (length m.links) 0 ≡ accepted
   mark_fine = passes NoSuchLink _ (lt-ltb (length m.links) (length (m.links ++ (served ∷ []))) (let s = length_push m.links served in omega arith)) ∙ passes BadMark accepted refl
+
+  pub in_service : l.in_service ≡ true → linked served m ≡ linked l m
+  in_service e = ap (λ b. linked (record { first = l.first; second = l.second; in_service = b; weight = l.weight }) m) (sym e)
 
   pub out_of_service : l.in_service ≡ false → marked (length m.links) false (linked served m) ≡ linked l m
   out_of_service e =

@@ -44,6 +44,9 @@ module _ {W : Type 0} (g : Ghosts W) (bs : List ℕ) (k : ℕ) where
       let next : number_place g bs k i + 4 ≡ number_place g bs k (i + 1) = omega arith in
       subst (λ n. One g bs (number k i) n r a Q) next v
 
+  pub numbering_none : (c : Cursor) (parts : List ℕ) → c.bytes.now ≡ bs → c.at ≡ number_place g bs k 0 → c.part ≡ part.Link k → Numbering g bs k 0 c parts
+  numbering_none c parts b p w = record { stands = record { bytes = b; place = p }; within = w; clear = tt; numbers = record { values = λ i h. absurd (omega arith); bytes = refl } }
+
   pub numbering_more : {i : ℕ} {c a : Cursor} {parts : List ℕ} {x : ℕ} → i < length parts → Numbering g bs k i c parts
       → fault_of g bs (number k i) ≡ None → x ≡ four_at bs (number_place g bs k i) → bytes_at bs (number_place g bs k i) 4 ≡ four x → Stands bs (number_place g bs k (i + 1)) a → a.part ≡ part.Link k
       → Numbering g bs k (i + 1) a (set parts i x)
@@ -76,7 +79,7 @@ module _ {W : Type 0} (g : Ghosts W) (bs : List ℕ) (k : ℕ) where
     pub weight_bytes : (v : g.Value) → v ≡ weight_in g bs k → bytes_at bs (number_place g bs k 0) (4 * g.PARTS) ≡ fours (g.nth v) g.PARTS
     weight_bytes v e = all.bytes ∙ fours_same _ (g.nth v) g.PARTS (λ i h. sym (ap (λ x. g.nth x i) e ∙ exact.holds _ i h))
 
-    weight_fault : (total : ℕ) (v : Option Refusal) → total ≡ total_in g bs k → number_place g bs k 0 + 4 * g.PARTS ≤ length bs
+    pub weight_fault : (total : ℕ) (v : Option Refusal) → total ≡ total_in g bs k → number_place g bs k 0 + 4 * g.PARTS ≤ length bs
         → weight_verdict total (g.size (g.of (λ i. get_or parts i 0))) ≡ v → fault_of g bs (weight k) ≡ fault_with (number_place g bs k 0) (part.Link k) v
     unfolding fault_of
     weight_fault total v t len h =

@@ -1,5 +1,5 @@
 -- What holds in the turn of a group that was taken, as the groups that wait are raised one after another.
-use Rattle.std.proofs.Common.{◌≡◌, ℕ, ◌+◌, ◌<◌, ◌≤◌, Bool, true, false, List, [], ◌∷◌, ◌++◌, get_or, Some, None, Ok, Err, Option, Result, sym, refl, ap, ◌∙◌, subst, ⊎_elim, ap₂, subst₂, arith}
+use Rattle.std.proofs.Common.{◌≡◌, ℕ, ◌+◌, ◌<◌, ◌≤◌, Bool, true, false, List, [], ◌∷◌, ◌++◌, get_or, Some, None, Ok, Err, Option, Result, sym, refl, ap, ◌∙◌, subst, ⊎_elim, ap₂, subst₂, append-nil, arith}
 use Rattle.std.proofs.lemmas.Bool.{cond-true, both_ways}
 use Rattle.weights.specs.declared.weight.Weight.{Ghosts}
 use Rattle.weights.specs.Laws.{limit}
@@ -25,6 +25,12 @@ pub record Raising {W : Type 0} (m : Ghosts W) (n : ℕ) (ls : List (Link m.Valu
   pub notes : (before : List (ℕ × ℕ)) → Notes n before first → Notes n (before ++ finds (kind_of m) n ls es bound v taken w) f
 
 module _ {W : Type 0} {m : Ghosts W} {n : ℕ} {ls : List (Link m.Value)} {es : List Entry} {taken : List ℕ} {v : ℕ} {table : List W} {start : ℕ → Option W} {marks : List Bool} (laws : Lawful (kind_of m)) (turn : Turn m n ls es taken v table start marks) where
+  pub raise_none : (bound : m.Value) (first : Found) → Raising m n ls es taken v bound first start first 0
+  raise_none bound first = record {
+    waits = waits_same turn.waits (λ x. refl) (λ x _. sym (mixed_old (kind_of m) n ls es v taken 0 x (omega arith)));
+    notes = λ before h. rw (append-nil before) h;
+  }
+
   module _ {bound : m.Value} {first f : Found} {keys : ℕ → Option W} {w : ℕ} (below : w < n) (raising : Raising m n ls es taken v bound first keys f w) where
     -- w stays as it is, and no pair is found with it
     still : (rest n es (v ∷ taken) w ≡ true → key (kind_of m) n ls es (v ∷ taken) w ≡ key (kind_of m) n ls es taken w) → raised (kind_of m) n ls es bound v taken w ≡ false → Raising m n ls es taken v bound first keys f (w + 1)
@@ -61,7 +67,7 @@ module _ {W : Type 0} {m : Ghosts W} {n : ℕ} {ls : List (Link m.Value)} {es : 
 
       module _ (by : W) (above : Above m (at m table n v w) (Some by)) where
         -- w waits, and the sum is not refused
-        raise_can : (k : W) × (keys w ≡ Some k) × (m.size (m.value k) + m.size (m.value by) ≤ limit)
+        pub raise_can : (k : W) × (keys w ≡ Some k) × (m.size (m.value k) + m.size (m.value by) ≤ limit)
         raise_can =
             let (k, e, is) = waits_here raising.waits w here in
             (k, e, rw (is_old k e, above.0, is_joint) (raise_fits (kind_of m) n ls es v taken laws turn.sound w))

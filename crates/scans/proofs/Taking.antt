@@ -1,5 +1,5 @@
 -- What holds between two turns of a scan.
-use Rattle.std.proofs.Common.{◌≡◌, ℕ, ◌<◌, ◌≤◌, Bool, true, false, ◌&&◌, ltb, List, [], ◌∷◌, length, get_or, set, None, Option, sym, refl, ⊎_elim, arith}
+use Rattle.std.proofs.Common.{◌≡◌, ℕ, ◌<◌, ◌≤◌, Bool, true, false, ◌&&◌, ltb, List, [], ◌∷◌, length, get_or, set, None, Option, sym, refl, ◌∙◌, ⊎_elim, arith}
 use Rattle.std.proofs.lemmas.Bool.Decides.{nat_tests}
 use Rattle.std.proofs.lemmas.Bool.{cases_lt, cond-false, and_from, not_from_false}
 use Rattle.weights.specs.declared.weight.Weight.{Ghosts}
@@ -7,16 +7,16 @@ use Rattle.cuts.specs.declared.entry.Entry.{Entry}
 use Rattle.cuts.specs.Kinds.{kind_of, Lawful, AtMost}
 use Rattle.cuts.specs.Links.{Link}
 use Rattle.cuts.specs.Groups.{stands}
-use Rattle.cuts.specs.Scans.{has, key, Order, found}
+use Rattle.cuts.specs.Scans.{has, key, Order, Complete, found}
 use Rattle.cuts.proofs.Facts.{key_none}
 use Rattle.cuts.proofs.Names.{stands_less}
-use Rattle.queues.specs.Keys.{Becomes, Heaviest}
+use Rattle.queues.specs.Keys.{Becomes, Empty, Heaviest}
 use Rattle.tables.specs.declared.groups.Groups.{Groups}
 use Rattle.tables.specs.Meaning.{Explains, Tracks}
 use Rattle.scans.specs.declared.found.Found.{Found}
-use Rattle.scans.specs.Scanned.{Notes}
+use Rattle.scans.specs.Scanned.{Notes, Scanned, pairs_of}
 use Rattle.scans.specs.Waits.{Waits, Marks, present}
-use Rattle.scans.proofs.Waiting.{waits_here, waits_some, waits_change, waits_same, mark, mark_same}
+use Rattle.scans.proofs.Waiting.{waits_here, waits_some, waits_empty, waits_change, waits_same, mark, mark_same}
 use Rattle.scans.proofs.Turns.{Keyed, rest, Turn, rest_stands}
 
 -- some groups were taken, each a heaviest; the others wait with their keys, and the pairs found are noted
@@ -53,9 +53,12 @@ module _ {W : Type 0} {m : Ghosts W} (laws : Lawful (kind_of m)) {n : ℕ} {ls :
       here : (rest n es taking.taken v ≡ true) × (m.value k ≡ key (kind_of m) n ls es taking.taken v)
       here = waits_some taking.keyed v k top.here
 
-      -- the group taken is one of those that stand
-      taken_below : v < n
+      -- the group taken is one of those that stand, and is marked
+      pub taken_below : v < n
       taken_below = stands_less n es v (rest_stands n es taking.taken v here.0).0
+
+      pub taken_marked : get_or marks v false ≡ true
+      taken_marked = taking.marked.each v ∙ here.0
 
       pub turn : {after : ℕ → Option W} → n ≤ length marks → Becomes keys after v None → Turn m n ls es taking.taken v table after (set marks v false)
       turn room becomes = record {
@@ -82,6 +85,13 @@ module _ {W : Type 0} {m : Ghosts W} (laws : Lawful (kind_of m)) {n : ℕ} {ls :
 
           less : (x : ℕ) → (x ≡ v → ⊥) → rest n es taken x ≡ rest n es (v ∷ taken) x
           less x ne = grind (arith, nat_tests)
+
+    -- every group is taken
+    pub all_taken : Empty keys → Scanned (kind_of m) n ls es bound (pairs_of f)
+    all_taken empty = record { taken = taking.taken; order = taking.order; complete = complete; pairs_are = taking.notes.pairs_are }
+      where
+        complete : Complete (kind_of m) n ls es taking.taken
+        complete w s = let e = waits_empty taking.keyed empty w in grind (arith, nat_tests)
 
 -- the turn of v is over
 pub taking_more : {W : Type 0} {m : Ghosts W} {n : ℕ} {ls : List (Link m.Value)} {es : List Entry} {taken : List ℕ} {v : ℕ} {table : List W} {before keys : ℕ → Option W} {marks : List Bool} {f : Found} (bound : m.Value) → Turn m n ls es taken v table before marks → Keyed m n ls es (v ∷ taken) keys → Notes n (found (kind_of m) n ls es bound (v ∷ taken)) f → Taking m n ls es bound keys marks f

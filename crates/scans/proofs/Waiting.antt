@@ -1,11 +1,11 @@
 -- How who waits, and the marks of it, follow what a queue's calls do.
-use Rattle.std.proofs.Common.{◌≡◌, ℕ, zero, suc, ◌<◌, Bool, true, false, cond, List, length, get_or, set, replicate, Some, None, Ok, Err, Option, Result, sym, refl, ap, ◌∙◌, ap₂, ⊎_elim}
+use Rattle.std.proofs.Common.{◌≡◌, ℕ, zero, suc, ◌<◌, Bool, true, false, cond, List, length, get_or, set, replicate, Some, None, Ok, Err, Option, Result, sym, refl, ap, ◌∙◌, ap₂, ⊎_elim, arith}
 use Rattle.std.proofs.lemmas.List.{get_or-set_other, get_or-set_same}
 use Rattle.std.proofs.lemmas.Map.{update_here, update_apart}
 use Rattle.std.proofs.lemmas.Bool.{cases_eq, cases_Bool, cond-true, cond-false}
 use Rattle.refusals.specs.declared.Refusal.{Refusal}
 use Rattle.weights.specs.declared.weight.Weight.{Ghosts}
-use Rattle.queues.specs.Keys.{Becomes, Raised}
+use Rattle.queues.specs.Keys.{Becomes, Empty, Raised}
 use Rattle.scans.specs.Waits.{worth, Waits, Marks, AllMarked}
 
 module _ {W V : Type 0} {value : W → V} {keys : ℕ → Option W} {p : ℕ → Bool} {m : ℕ → V} (waits : Waits value keys p m) where
@@ -24,6 +24,13 @@ module _ {W V : Type 0} {value : W → V} {keys : ℕ → Option W} {p : ℕ →
       ⊎_elim
       (λ (t : p x ≡ true). let h = is ∙ cond-true (p x) (Some (m x)) None t in (t, cc))
       (λ (f : p x ≡ false). let h = is ∙ cond-false (p x) (Some (m x)) None f in cc)
+      (cases_Bool (p x))
+
+  pub waits_empty : Empty keys → (x : ℕ) → p x ≡ false
+  waits_empty empty x =
+      ⊎_elim
+      (λ (t : p x ≡ true). let r = waits_here x t in let e = empty x in let f = r.1 in let z : ◌≡◌ {A = ℕ} 0 1 = cc in absurd (omega arith))
+      (λ (f : p x ≡ false). f)
       (cases_Bool (p x))
 
   module _ {p' : ℕ → Bool} {m' : ℕ → V} where

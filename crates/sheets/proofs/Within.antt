@@ -14,7 +14,7 @@ use Rattle.sheets.specs.declared.issue.Issue.{Issue}
 use Rattle.sheets.specs.Format.{size_of_code, Valid}
 
 -- a unit bears a code, by its own type
-all_codes : (us : List Unit) → AllByRecursion (λ text. is_code text ≡ true) (map code_of us)
+pub all_codes : (us : List Unit) → AllByRecursion (λ text. is_code text ≡ true) (map code_of us)
 all_codes [] = tt
 all_codes (u ∷ us) = (u.code.code, all_codes us)
 

@@ -5,7 +5,7 @@ use Rattle.std.proofs.lemmas.Bool.Decides.{nat_tests}
 use Rattle.weights.specs.Laws.{limit}
 use Rattle.weights.specs.declared.weight.Weight.{Ghosts}
 use Rattle.cuts.specs.Kinds.{Kind, Lawful, kind_of}
-use Rattle.cuts.specs.Links.{Link, sum, Sound}
+use Rattle.cuts.specs.Links.{Link, sum, Ends, Sound}
 use Rattle.cuts.specs.Divisions.{only, differ}
 use Rattle.cuts.specs.Groups.{degree, joint}
 use Rattle.cuts.proofs.Facts.{joint_sym}
@@ -13,6 +13,12 @@ use Rattle.cuts.proofs.Fills.{sum_more, next_fits}
 use Rattle.cuts.proofs.Names.{stands_from, stands_less}
 use Rattle.tables.specs.Meaning.{at, Holds}
 use Rattle.tables.proofs.Places.{at_same, at_other, rest_set}
+
+-- the last link joins units of the plan
+pub ends_last : {V : Type 0} (n : ℕ) (ps : List (Link V)) (l : Link V) → Ends n (ps ++ (l ∷ [])) → (l.first < n) × (l.second < n)
+unfolding Ends
+ends_last n [] l e = (e.0, e.1)
+ends_last n (p ∷ ps) l e = ends_last n ps l e.2
 
 sum_out : {V : Type 0} (K : Kind V) (test : ℕ → ℕ → Bool) (ps : List (Link V)) (l : Link V) → l.in_service ≡ false → sum K test (ps ++ (l ∷ [])) ≡ sum K test ps
 unfolding sum
@@ -63,6 +69,14 @@ at_neither a b u p q = grind (arith, nat_tests)
 -- the links with one more in service
 abbrev pub linked : {V : Type 0} → List (Link V) → ℕ → ℕ → V → List (Link V)
 linked ls a b w = ls ++ (record { first = a; second = b; in_service = true; weight = w } ∷ [])
+
+-- a table of some links, to which one more can be added
+abbrev pub Fillable : {W : Type 0} (g : Ghosts W) → ℕ → ℕ → ℕ → W → List W → Type 0
+Fillable g n a b weight table = (ls : List (Link g.Value)) × Holds g n ls [] table × Sound (kind_of g) n (linked ls a b (g.value weight))
+
+module _ {W : Type 0} (g : Ghosts W) (table : List W) (n a b : ℕ) (weight : W) (held : Fillable g n a b weight table) where
+  pub ends_below : (a < n) × (b < n)
+  ends_below = ends_last n held.0 _ held.2.ends
 
 module _ {W : Type 0} (g : Ghosts W) (laws : Lawful (kind_of g)) (table : List W) (n a b : ℕ) (weight : W) (la : a < n) (lb : b < n) (ls : List (Link g.Value)) (holds : Holds g n ls [] table) (sound : Sound (kind_of g) n (linked ls a b (g.value weight))) where
   -- the weight can be added to an entry that is a sum over the links

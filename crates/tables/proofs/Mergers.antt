@@ -1,5 +1,5 @@
 -- The table while the row of a group is added to that of a lower one.
-use Rattle.std.proofs.Common.{◌≡◌, ℕ, ◌+◌, ◌*◌, ◌<◌, ◌≤◌, Bool, true, false, not, ◌&&◌, ◌||◌, eqb, ltb, List, [], ◌∷◌, ◌++◌, length, drop, set, sym, ap, ◌∙◌, subst, ap₂, subst₂, ⊎_elim, add-one, arith, length-set}
+use Rattle.std.proofs.Common.{◌≡◌, ℕ, ◌+◌, ◌*◌, ◌<◌, ◌≤◌, Bool, true, false, not, ◌&&◌, ◌||◌, eqb, ltb, List, [], ◌∷◌, ◌++◌, length, drop, set, sym, refl, ap, ◌∙◌, subst, ap₂, subst₂, ⊎_elim, add-one, arith, length-set}
 use Rattle.std.proofs.lemmas.Bool.{cases_eq, cond-true, cond-false, cases_Bool, and_parts}
 use Rattle.std.proofs.lemmas.Bool.Decides.{nat_tests}
 use Rattle.weights.specs.Laws.{limit}
@@ -42,6 +42,9 @@ module _ {W : Type 0} (g : Ghosts W) (n u : ℕ) (old : List W) where
   abbrev pub Kept : List W → ℕ → Type 0
   Kept table w = (a b : ℕ) → b < n → reached u w a b ≡ false → at g table n a b ≡ at g old n a b
 
+  pub kept_none : Kept old 0
+  kept_none a b lt h = refl
+
   pub kept_skip : (table : List W) (w : ℕ) → Kept table w → Kept table (w + 1)
   kept_skip table w kept a b lt h = kept a b lt (reached_less u w a b h)
 
@@ -82,6 +85,9 @@ module _ {W : Type 0} (g : Ghosts W) (n : ℕ) (ls : List (Link g.Value)) (es : 
 
     passed : (w : ℕ) → (Third n es e w → ⊥) → (stands n (es ++ (e ∷ [])) w && not (eqb w e.low)) ≡ false
     passed w out = ⊎_elim (λ h. absurd (out (third_of w h))) (λ h. h) (cases_Bool (stands n (es ++ (e ∷ [])) w && not (eqb w e.low)))
+
+    pub mid_none : (table : List W) (sum : W) → g.value sum ≡ g.zero → Midway table 0 sum
+    mid_none table sum is = record { row = λ b lt. absurd (omega arith); column = λ b lt. absurd (omega arith); total = is }
 
     pub mid_skip : (table : List W) (w : ℕ) (sum : W) → (Third n es e w → ⊥) → Midway table w sum → Midway table (w + 1) sum
     mid_skip table w sum out mid = record {

@@ -1,5 +1,5 @@
 -- The turns of the loop that adds one row to another.
-use Rattle.std.proofs.Common.{◌≡◌, ℕ, ◌+◌, ◌*◌, ◌<◌, ◌≤◌, true, false, not, ◌&&◌, ◌||◌, eqb, List, [], ◌∷◌, ◌++◌, length, get_or, drop, set, sym, ◌∙◌, subst₂, arith}
+use Rattle.std.proofs.Common.{◌≡◌, ℕ, ◌+◌, ◌*◌, ◌<◌, ◌≤◌, true, false, not, ◌&&◌, ◌||◌, eqb, List, [], ◌∷◌, ◌++◌, length, get_or, drop, set, sym, refl, ◌∙◌, subst₂, arith}
 use Rattle.std.proofs.lemmas.Bool.{and_parts}
 use Rattle.std.proofs.lemmas.Bool.Decides.{nat_tests}
 use Rattle.weights.specs.Laws.{limit}
@@ -11,7 +11,7 @@ use Rattle.cuts.specs.Links.{Link}
 use Rattle.cuts.specs.Groups.{stands}
 use Rattle.tables.specs.declared.groups.Groups.{Groups}
 use Rattle.tables.specs.Meaning.{at, Holds, Explains}
-use Rattle.tables.proofs.Mergers.{Kept, Midway, Third, written, written_rest, kept_skip, kept_more, mid_skip, both_fit, sum_fits, mid_more, mid_all}
+use Rattle.tables.proofs.Mergers.{Kept, Midway, Third, written, written_rest, kept_none, kept_skip, kept_more, mid_none, mid_skip, both_fit, sum_fits, mid_more, mid_all}
 
 abbrev pub merger : ℕ → ℕ → Ground → ℕ → Entry
 merger low high ground scan = record { low = low; high = high; ground = ground; scan = scan }
@@ -24,6 +24,13 @@ module _ {W : Type 0} (g : Ghosts W) (n low high : ℕ) (old : List W) (groups :
     pub mid : (ls : List (Link g.Value)) (es : List Entry) (ground : Ground) (scan : ℕ) → Explains g n ls es old groups → stands n es low ≡ true → stands n es high ≡ true → low < high → Midway g n ls es (merger low high ground scan) table w sum
 
   module _ (laws : Lawful (kind_of g)) where
+    pub merging_none : (sum : W) → g.value sum ≡ g.zero → Merging old 0 sum
+    merging_none sum is = record {
+      rest = refl;
+      kept = kept_none g n low old;
+      mid = λ ls es ground scan ex sl sh less. mid_none g n ls es (merger low high ground scan) laws ex.sound ex.joins sl sh less old sum is;
+    }
+
     pub merging_skip : (table : List W) (w : ℕ) (sum : W) → w < n → (get_or groups.standing w false && not (eqb w low || eqb w high)) ≡ false → Merging table w sum → Merging table (w + 1) sum
     merging_skip table w sum lt passed m = record {
       rest = m.rest;

@@ -80,7 +80,8 @@ pub fn part_at(parts: &[u32], i: usize) -> u32
 
 // Both together, where the amounts keep the limit; where they do not, the first alone.
 pub fn add<W: Weight>(a: W, b: W) -> W
-    ensures { W.Weight.size (W.Weight.value a) + W.Weight.size (W.Weight.value b) ≤ limit → W.Weight.value result ≡ W.Weight.plus (W.Weight.value a) (W.Weight.value b) }
+    ensures fits { W.Weight.size (W.Weight.value a) + W.Weight.size (W.Weight.value b) ≤ limit → W.Weight.value result ≡ W.Weight.plus (W.Weight.value a) (W.Weight.value b) }
+    ensures over { limit < W.Weight.size (W.Weight.value a) + W.Weight.size (W.Weight.value b) → result ≡ a }
 {
     a.sum(b).unwrap_or(a)
 }

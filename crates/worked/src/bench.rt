@@ -1,5 +1,7 @@
 // What the tests share: filings over memory of their own, lent from the stack, and what is seen of them.
 ghost use Rattle.std.specs.Prelude.{ℕ, ◌≤◌};
+ghost use Rattle.filings.specs.Filed.{Filed};
+ghost use Rattle.weights.specs.contracts.plain.PlainWeight.TheImpl.{ghosts as plainKind};
 
 use crate::example::{CODES, LINKS, SHEET};
 use answers::trial::trial;
@@ -144,6 +146,7 @@ fn plain(conductors: u32) -> Result<Plain, Refusal> {
 // Enters units U10000, U10001 and so on.
 pub fn enter_units(filing: &mut Filing<Plain>, count: u8) -> Result<(), Refusal>
     requires { count ≤ 100 }
+    ensures filed { Filed plainKind filing.old → Filed plainKind filing.new }
 {
     for k in 0..count {
         // two digits by hand, so that nothing but a refusal can go wrong
@@ -153,7 +156,9 @@ pub fn enter_units(filing: &mut Filing<Plain>, count: u8) -> Result<(), Refusal>
 }
 
 // Makes each link in turn.
-pub fn join(filing: &mut Filing<Plain>, links: &[(usize, usize, u32)]) -> Result<(), Refusal> {
+pub fn join(filing: &mut Filing<Plain>, links: &[(usize, usize, u32)]) -> Result<(), Refusal>
+    ensures filed { Filed plainKind filing.old → Filed plainKind filing.new }
+{
     for (first, second, conductors) in links {
         filing.link(*first, *second, plain(*conductors)?)?;
     }
@@ -161,7 +166,9 @@ pub fn join(filing: &mut Filing<Plain>, links: &[(usize, usize, u32)]) -> Result
 }
 
 // Makes one edit.
-fn make(filing: &mut Filing<Plain>, edit: Edit) -> Result<(), Refusal> {
+fn make(filing: &mut Filing<Plain>, edit: Edit) -> Result<(), Refusal>
+    ensures filed { Filed plainKind filing.old → Filed plainKind filing.new }
+{
     match edit {
         Edit::Enter(code) => {
             filing.enter(&code)?;
@@ -186,6 +193,7 @@ pub fn asked<Q: PriorityQueue<Weight = Plain>>(
     without: Option<usize>,
 ) -> Result<Seen, Refusal>
     requires { Q.PriorityQueue.sound queue.old }
+    ensures filed { Filed plainKind filing.old → Filed plainKind filing.new }
 {
     let mut marks = [UNTOUCHED; 6];
     let mut record = [BLANK; 6];
@@ -205,7 +213,9 @@ pub fn asked<Q: PriorityQueue<Weight = Plain>>(
 }
 
 // The weakest division, or that with one link out, by the list queue.
-pub fn by_list(filing: &mut Filing<Plain>, without: Option<usize>) -> Result<Seen, Refusal> {
+pub fn by_list(filing: &mut Filing<Plain>, without: Option<usize>) -> Result<Seen, Refusal>
+    ensures filed { Filed plainKind filing.old → Filed plainKind filing.new }
+{
     let mut slots = [Slot::<Plain>::empty(); GROUPS];
     let mut queue = ListQueue::over(&mut slots);
     asked(filing, &mut queue, without)
@@ -239,26 +249,27 @@ pub fn worked_out(units: u8, links: &[(usize, usize, u32)]) -> Result<Seen, Refu
 }
 
 // Reads the plan of four units and works it out.
-pub fn begin(rt: &impl Abort, filing: &mut Filing<Plain>) -> Result<(), Fail> {
+pub fn begin(rt: &impl Abort, filing: &mut Filing<Plain>) -> Result<(), Fail>
+    ensures filed { Filed plainKind filing.old → Filed plainKind filing.new }
+{
     filing.read(&SHEET)?;
     assert_eq!(rt; by_list(filing, None)?, BEGUN);
     Ok(())
 }
 
 // Checks that the plan of four units is as it began, and keeps its marks.
-pub fn unchanged(rt: &impl Abort, filing: &mut Filing<Plain>) -> Result<(), Fail> {
+pub fn unchanged(rt: &impl Abort, filing: &mut Filing<Plain>) -> Result<(), Fail>
+    ensures filed { Filed plainKind filing.old → Filed plainKind filing.new }
+{
     assert!(rt; is_example(filing));
     assert_eq!(rt; by_list(filing, None)?, KEPT);
     Ok(())
 }
 
 // Checks the kept flag and the figure of weakest.
-fn answers(
-    rt: &impl Abort,
-    filing: &mut Filing<Plain>,
-    kept: bool,
-    figure: u32,
-) -> Result<(), Fail> {
+fn answers(rt: &impl Abort, filing: &mut Filing<Plain>, kept: bool, figure: u32) -> Result<(), Fail>
+    ensures filed { Filed plainKind filing.old → Filed plainKind filing.new }
+{
     let seen = by_list(filing, None)?;
     assert_eq!(rt; (seen.kept, seen.figure), (kept, figure));
     Ok(())
@@ -273,13 +284,17 @@ fn weighed(filing: &Filing<Plain>, marks: &[u8]) -> Result<u32, u8> {
 }
 
 // The figure with one link out, or the number of the refusal, as a step states it.
-fn tried(filing: &mut Filing<Plain>, link: usize) -> Result<u32, u8> {
+fn tried(filing: &mut Filing<Plain>, link: usize) -> Result<u32, u8>
+    ensures filed { Filed plainKind filing.old → Filed plainKind filing.new }
+{
     by_list(filing, Some(link))
         .map(|seen| seen.figure)
         .map_err(|why| why.number())
 }
 
-fn take(rt: &impl Abort, filing: &mut Filing<Plain>, step: Step) -> Result<(), Fail> {
+fn take(rt: &impl Abort, filing: &mut Filing<Plain>, step: Step) -> Result<(), Fail>
+    ensures filed { Filed plainKind filing.old → Filed plainKind filing.new }
+{
     match step {
         Step::Begin => begin(rt, filing),
         Step::Make(edit) => {
@@ -304,7 +319,9 @@ fn take(rt: &impl Abort, filing: &mut Filing<Plain>, step: Step) -> Result<(), F
 }
 
 // Goes through the steps of a test.
-pub fn follow(rt: &impl Abort, filing: &mut Filing<Plain>, steps: &[Step]) -> Result<(), Fail> {
+pub fn follow(rt: &impl Abort, filing: &mut Filing<Plain>, steps: &[Step]) -> Result<(), Fail>
+    ensures filed { Filed plainKind filing.old → Filed plainKind filing.new }
+{
     for next in steps {
         take(rt, filing, *next)?;
     }

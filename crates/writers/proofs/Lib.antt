@@ -1,3 +1,4 @@
+pub mod Lengths
 pub mod Puts
 pub mod Steps
 pub mod Verdict

@@ -1,5 +1,5 @@
 -- The issue with a number, and what it leaves of the verdict.
-use Rattle.std.proofs.Common.{◌≡◌, ℕ, ◌≤◌, true, false, ◌||◌, eqb, List, [], ◌∷◌, map, length, take, Ok, refl, ap, subst, arith}
+use Rattle.std.proofs.Common.{◌≡◌, ℕ, ◌≤◌, true, false, ◌||◌, eqb, List, [], ◌∷◌, map, length, take, Ok, refl, ap, subst, ⊎_elim, arith}
 use Rattle.std.specs.List.{list_any, AllByRecursion}
 use Rattle.std.proofs.lemmas.Bool.{or_parts, eqb-false}
 use Rattle.refusals.specs.declared.Refusal.TheVariants.{LongCode}
@@ -7,6 +7,7 @@ use Rattle.weights.specs.declared.weight.Weight.{Ghosts}
 use Rattle.plans.specs.declared.plan.Plan.{Plan}
 use Rattle.plans.specs.declared.plan.Unit.{Unit}
 use Rattle.plans.specs.Model.{model_of, code_of}
+use Rattle.codes.specs.Code.{is_code}
 use Rattle.sheets.specs.declared.issue.Issue.{Issue}
 use Rattle.sheets.specs.declared.issue.Issue.TheVariants.{First, Second}
 use Rattle.sheets.specs.Faults.{Named}
@@ -21,6 +22,19 @@ long_in [] = refl
 long_in (u ∷ us) = ap (λ b. eqb (length (code_of u)) 7 || b) (long_in us)
 
 -- issue 1 takes the codes where none has seven characters, issue 2 all of them
+pub fit_first : (texts : List (List ℕ)) → AllByRecursion (λ text. is_code text ≡ true) texts → has_long_code texts ≡ false → AllByRecursion (λ text. length text ≤ 6) texts
+fit_first [] codes none = tt
+fit_first (t ∷ ts) codes none =
+    let p = or_parts (eqb (length t) 7) (has_long_code ts) none in (
+      ⊎_elim (λ a. omega arith) (λ b. absurd (eqb-false (length t) 7 p.0 b)) (six_or_seven t codes.0),
+      fit_first ts codes.1 p.1,
+    )
+
+pub fit_second : (texts : List (List ℕ)) → AllByRecursion (λ text. is_code text ≡ true) texts → AllByRecursion (λ text. length text ≤ 7) texts
+fit_second [] codes = tt
+fit_second (t ∷ ts) codes = (⊎_elim (λ a. omega arith) (λ b. omega arith) (six_or_seven t codes.0), fit_second ts codes.1)
+
+-- the same of the codes of units
 fit : (i : Issue) (us : List Unit) → (i ≡ First → has_long_code (map code_of us) ≡ false) → AllByRecursion (λ text. length text ≤ size_of_code i) (map code_of us)
 fit i [] none = tt
 fit First (u ∷ us) none =

@@ -13,7 +13,7 @@ loop-w-preserved g c = λ ls es ex pair.
     elim c.if-is_third.branch [
       | then-is_third w ↦
           let is : true ≡ third_mark c.args.self.now.graph.now.groups.now c.args.self.now.u c.args.self.now.v c.loop-w.w = cc in
-          let more = gathered_added g.met.W.Weight.laws ex pair c.loop-w.w lt is _ _ _ _ _ before w.entry.ensures.value w.entry-then-is_third.ensures.value w.lesser.ensures w.add-sum.ensures in
+          let more = gathered_added g.met.W.Weight.laws ex pair c.loop-w.w lt is _ _ _ _ _ before w.entry.ensures.value w.entry-then-is_third.ensures.value w.lesser.ensures w.add-sum.ensures.fits in
           cc
       | else-is_third w ↦
           let skips = third_marked ex c.args.self.now.u c.args.self.now.v c.loop-w.w false lt (cc) in

@@ -18,7 +18,7 @@ loop-link-preserved g c =
     let here = drop_more all i l c.loop-link-test.true ∙ ap (λ x. x ∷ drop (i + 1) all) (sym c.link-item.is) in
     let before = c.loop-link.invariant in
     elim c.if-is_cut.branch [
-      | then-is_cut w ↦ adding_more g.W.Weight T g.met.W.Weight.laws all i l _ here before _ (ap g.W.Weight.value w.sum-is ∙ w.add-sum.ensures (fits_more g.W.Weight T g.met.W.Weight.laws all i l _ here before)) (taken g.W.Weight T l (drop (i + 1) all) (sym c.is_cut.ensures ∙ w.if-is_cut.true))
+      | then-is_cut w ↦ adding_more g.W.Weight T g.met.W.Weight.laws all i l _ here before _ (ap g.W.Weight.value w.sum-is ∙ w.add-sum.ensures.fits (fits_more g.W.Weight T g.met.W.Weight.laws all i l _ here before)) (taken g.W.Weight T l (drop (i + 1) all) (sym c.is_cut.ensures ∙ w.if-is_cut.true))
       | else-is_cut w ↦ subst (λ x. Adding g.W.Weight T g.met.W.Weight.laws all (i + 1) (g.W.Weight.value x)) (sym w.sum-is) (adding_skip g.W.Weight T g.met.W.Weight.laws all i l _ here before (passed_over g.W.Weight T l (drop (i + 1) all) (sym c.is_cut.ensures ∙ w.if-is_cut.false)))
     ]
 

@@ -22,7 +22,7 @@ loop-w-preserved g c =
       memory = (kept.0 ∙ same.0, kept.1 ∙ same.1);
       merging = subst (λ t. Merging g.W.Weight c.args.self.now.units c.args.low c.args.high c.args.self.now.weights.now c.args.groups.now t (c.loop-w.w + 1) c.add-degree.result) (sym written)
           (merging_more g.W.Weight _ _ _ _ _ g.met.W.Weight.laws c.loop-w.self.weights.now c.loop-w.w c.loop-w.degree c.merge_entry-both.result c.add-degree.result
-          c.requires.low c.loop-w-test.true size (sym c.is_third.ensures ∙ c.if-not-is_third.false) value c.add-degree.ensures c.loop-w.invariant.merging);
+          c.requires.low c.loop-w-test.true size (sym c.is_third.ensures ∙ c.if-not-is_third.false) value c.add-degree.ensures.fits c.loop-w.invariant.merging);
     }
 
 pub returns-clause-holds : goal.returns-clause-holds
