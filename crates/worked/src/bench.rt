@@ -13,6 +13,7 @@ use plans::plan::{self, Link};
 use queues::list::{ListQueue, Slot};
 use queues::queue::{GROUPS, PriorityQueue};
 use refusals::Refusal;
+use solvers::answer::Answer;
 use std::process::Abort;
 use std::test::Fail;
 use weights::plain::Plain;
@@ -185,6 +186,25 @@ fn make(filing: &mut Filing<Plain>, edit: Edit) -> Result<(), Refusal>
     }
 }
 
+// The weakest division, or that with one link out, in lent memory; a function of its own, as what a `match` does to the
+// filing is not known after it.
+fn answered<Q: PriorityQueue<Weight = Plain>>(
+    filing: &mut Filing<Plain>,
+    queue: &mut Q,
+    without: Option<usize>,
+    marks: &mut [u8],
+    record: &mut [Entry],
+    table: &mut [Plain],
+) -> Result<Answer<Plain>, Refusal>
+    requires { Q.PriorityQueue.sound queue.old }
+    ensures filed { Filed plainKind filing.old → Filed plainKind filing.new }
+{
+    match without {
+        None => weakest(filing, queue, marks, record, table),
+        Some(link) => trial(filing, link, queue, marks, record, table),
+    }
+}
+
 // The weakest division by a queue, or that with one link out. The random calls choose between both too, in memory from
 // the heap and with what is seen of it, which tests on the stack cannot take from that program.
 pub fn asked<Q: PriorityQueue<Weight = Plain>>(
@@ -198,10 +218,7 @@ pub fn asked<Q: PriorityQueue<Weight = Plain>>(
     let mut marks = [UNTOUCHED; 6];
     let mut record = [BLANK; 6];
     let mut table = [Plain::nothing(); 36];
-    let answer = match without {
-        None => weakest(filing, queue, &mut marks, &mut record, &mut table)?,
-        Some(link) => trial(filing, link, queue, &mut marks, &mut record, &mut table)?,
-    };
+    let answer = answered(filing, queue, without, &mut marks, &mut record, &mut table)?;
     Ok(Seen {
         figure: answer.figure.amount(),
         marks,

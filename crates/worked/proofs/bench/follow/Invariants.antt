@@ -3,4 +3,4 @@ use Rattle.weights.specs.contracts.plain.PlainWeight.TheImpl.{ghosts as plainKin
 use Rattle.worked.proofs.bench.follow.Given as goal
 
 abbrev pub invariant-loop-next : goal.invariant-loop-next
-invariant-loop-next l = Filed plainKind l.initial.filing → Filed plainKind l.filing
+invariant-loop-next g l = Filed plainKind l.initial.filing → Filed plainKind l.filing
