@@ -2,6 +2,8 @@
 // model that is written from docs/RULES.md alone.
 #![tactic(auto)]
 
+ghost use Rattle.filings.specs.Filed.{Filed};
+
 use crate::calls::{Call, Caller};
 use crate::compare::{Outcome, expect};
 use crate::draws::{Draws, Form};
@@ -50,6 +52,23 @@ impl Tally {
     }
 }
 
+// Makes a call on the filing and on the model.
+fn step<W: Weight>(caller: &mut Caller<W>, model: &mut Model, call: &Call) -> Outcome
+    requires { Filed W.Weight caller.old.filing }
+    ensures { Filed W.Weight caller.new.filing }
+{
+    let seen = caller.perform(call);
+    Outcome {
+        reply: seen.reply,
+        expected: expect(model, call, &seen),
+        same: is_made_of(
+            caller.filing.plan(),
+            model.codes.as_slice(),
+            model.wires.as_slice(),
+        ),
+    }
+}
+
 // A run of calls, from a plan with no units: each is made on a filing and on the model.
 fn run<W: Weight>(
     rt: &impl Print,
@@ -63,16 +82,7 @@ fn run<W: Weight>(
     let mut model = Model::new(heap);
     for turn in 0..calls {
         let call = draws.call(&model, turn)?;
-        let seen = caller.perform(&call);
-        let outcome = Outcome {
-            reply: seen.reply,
-            expected: expect(&mut model, &call, &seen),
-            same: is_made_of(
-                caller.filing.plan(),
-                model.codes.as_slice(),
-                model.wires.as_slice(),
-            ),
-        };
+        let outcome = step(&mut caller, &mut model, &call);
         let none = Err(Trouble::NoMemory);
         ensure!(
             outcome.reply != none && outcome.expected != none,

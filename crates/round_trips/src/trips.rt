@@ -1,4 +1,6 @@
 // A draft as a plan, written, read back and written again.
+ghost use Rattle.std.specs.Prelude.{◌≡◌, IfOk};
+
 use crate::drafts::Draft;
 use crate::encoder::{encode, refusal};
 use plans::plan::Plan;
@@ -49,7 +51,10 @@ fn holds(bytes: &[u8], sheet: &[u8]) -> bool {
 }
 
 impl<'a> Case<'a> {
-    pub fn new(heap: Global, draft: &'a Draft, issue: u16) -> Result<Case<'a>, AllocError> {
+    pub fn new(heap: Global, draft: &'a Draft, issue: u16) -> Result<Case<'a>, AllocError>
+        ensures draft { IfOk result (λ c. c.draft.now ≡ draft.now) }
+        ensures issue { IfOk result (λ c. c.issue ≡ issue) }
+    {
         let sheet = encode(heap, draft, issue)?;
         Ok(Case {
             heap,

@@ -1,5 +1,5 @@
 // What the tests share: filings over memory of their own, lent from the stack, and what is seen of them.
-ghost use Rattle.std.specs.Prelude.{ℕ, ◌≤◌};
+ghost use Rattle.std.specs.Prelude.{◌≡◌, ℕ, ◌≤◌};
 ghost use Rattle.filings.specs.Filed.{Filed};
 ghost use Rattle.weights.specs.contracts.plain.PlainWeight.TheImpl.{ghosts as plainKind};
 
@@ -125,7 +125,12 @@ pub enum Step {
     Unchanged,
 }
 
-pub fn entry(low: u8, high: u8, ground: Ground, scan: u8) -> Entry {
+pub fn entry(low: u8, high: u8, ground: Ground, scan: u8) -> Entry
+    ensures low { result.low ≡ low }
+    ensures high { result.high ≡ high }
+    ensures under { result.ground ≡ ground }
+    ensures scan { result.scan ≡ scan }
+{
     Entry {
         low,
         high,
