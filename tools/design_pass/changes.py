@@ -16,10 +16,11 @@ RENAMED = [('filings', 'older_filings'), ('kept_plans', 'filings'), ('worked', '
            ('random_calls', 'older_random'), ('random_answers', 'random_calls')]
 # functions that became methods of a struct, or stand in another crate, where the comparison doesn't find them again
 MOVED = [(('tables', name), ('tables', "Table<'a, W>", name)) for name in ('entry', 'set_entry', 'set_joint', 'clear')]
-MOVED += [(('rows', name), ('tables', "Table<'a, W>", name)) for name in ('add_link', 'grown', 'merge_rows', 'merge_entry')]
+MOVED += [(('rows', name), ('tables', "Table<'a, W>", name)) for name in ('add_link', 'merge_rows')]
 MOVED += [(('rows', name), ('tables', "Graph<'g, W>", name)) for name in ('lightest', 'is_lighter')]
 MOVED += [(('passes', name), ('passes', "Pair<'p, 'g, W>", name)) for name in ('is_apex', 'is_triangle', 'is_neighbourhood')]
 MOVED += [(('passes', 'ground_of'), ('passes', "Pair<'p, 'g, W>", 'ground'))]
+MOVED += [(('passes', 'within_twice'), ('passes', "Pair<'p, 'g, W>", 'is_within_twice'))]
 MOVED += [(('writers', name), ('writers', "Pen<'a>", name)) for name in ('put_byte', 'put_bytes')]
 MOVED += [(('writers', name), ('writers', "Pen<'_>", name)) for name in ('put_head', 'put_code', 'put_codes', 'put_weight', 'put_link', 'put_links')]
 MOVED += [(('contractions', name), ('contractions', "Contraction<'t, 'm, 'e, W>", name)) for name in ('goes_on', 'note_best', 'merge', 'merge_found', 'round')]

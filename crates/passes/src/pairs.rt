@@ -1,5 +1,5 @@
 // The test of a pair that looks at its three weights alone, and the pass over all pairs.
-ghost use Rattle.std.specs.Prelude.{◌≡◌, ◌+◌, ◌<◌, ◌≤◌, ◌||◌, List, IfSome};
+ghost use Rattle.std.specs.Prelude.{◌≡◌, ◌+◌, ◌<◌, ◌≤◌, false, ◌||◌, List, IfSome};
 ghost use Rattle.weights.specs.Laws.{limit};
 ghost use Rattle.cuts.specs.declared.entry.Entry.{Entry};
 ghost use Rattle.cuts.specs.Kinds.{kind_of};
@@ -10,20 +10,19 @@ ghost use Rattle.tables.specs.Meaning.{ExplainsIn};
 use crate::pair::Pair;
 use cuts::ground::Ground;
 use tables::graph::Graph;
-use weights::weight::Weight;
+use weights::weight::{LIMIT, Weight, add};
 
-// Whether a degree is at most twice a weight.
-pub(crate) fn within_twice<W: Weight>(degree: W, weight: W) -> bool
-    ensures { W.Weight.size (W.Weight.value weight) + W.Weight.size (W.Weight.value weight) ≤ limit → result ≡ W.Weight.le (W.Weight.value degree) (W.Weight.plus (W.Weight.value weight) (W.Weight.value weight)) }
-{
-    weight.sum(weight).is_ok_and(|twice| degree.at_most(twice))
-}
-
-// Unbalanced: the degree of one of two groups is at most twice their joint weight.
+// Unbalanced: the degree of one of two groups is at most twice their joint weight. Where twice that weight passes the limit,
+// neither is.
 pub fn is_unbalanced<W: Weight>(joint: W, a: W, b: W) -> bool
-    ensures { W.Weight.size (W.Weight.value joint) + W.Weight.size (W.Weight.value joint) ≤ limit → result ≡ (W.Weight.le (W.Weight.value a) (W.Weight.plus (W.Weight.value joint) (W.Weight.value joint)) || W.Weight.le (W.Weight.value b) (W.Weight.plus (W.Weight.value joint) (W.Weight.value joint))) }
+    ensures fits { W.Weight.size (W.Weight.value joint) + W.Weight.size (W.Weight.value joint) ≤ limit → result ≡ (W.Weight.le (W.Weight.value a) (W.Weight.plus (W.Weight.value joint) (W.Weight.value joint)) || W.Weight.le (W.Weight.value b) (W.Weight.plus (W.Weight.value joint) (W.Weight.value joint))) }
+    ensures over { limit < W.Weight.size (W.Weight.value joint) + W.Weight.size (W.Weight.value joint) → result ≡ false }
 {
-    within_twice(a, joint) || within_twice(b, joint)
+    if joint.amount() > LIMIT / 2 {
+        return false;
+    }
+    let twice = add(joint, joint);
+    a.at_most(twice) || b.at_most(twice)
 }
 
 // The first pair, in order of the lower group and then the higher, that meets a test, with its lowest ground.

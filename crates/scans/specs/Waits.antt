@@ -2,7 +2,13 @@
 use Rattle.std.specs.Prelude.{◌≡◌, ℕ, ◌<◌, Bool, true, false, cond, ◌&&◌, List, Some, None, Ok, Err, Option, Result, nat_lt, slice_index_or}
 use Rattle.refusals.specs.declared.Refusal.{Refusal}
 use Rattle.weights.specs.declared.weight.Weight.{Ghosts}
+use Rattle.cuts.specs.declared.entry.Entry.{Entry}
+use Rattle.cuts.specs.Kinds.{kind_of}
+use Rattle.cuts.specs.Links.{Link}
+use Rattle.cuts.specs.Sums.{Fits}
+use Rattle.tables.specs.declared.graph.Graph.{Graph}
 use Rattle.tables.specs.declared.groups.Groups.{Groups}
+use Rattle.tables.specs.Meaning.{ExplainsIn}
 
 -- the value of a key, where there is one
 abbrev pub worth : {W V : Type 0} → (W → V) → Option W → Option V
@@ -34,3 +40,8 @@ Above g v (Some k) = (g.value k ≡ v) × (g.le v g.zero ≡ false)
 -- the groups that stand, as they are marked among the first n
 abbrev pub present : ℕ → Groups → ℕ → Bool
 present n groups x = nat_lt x n && slice_index_or groups.standing x false
+
+-- in every plan that the weights and groups are those of, the group waits, and its key and the weight by keep the limit
+abbrev pub CanRaise : {W : Type 0} (g : Ghosts W) → Graph W → (ℕ → Option W) → ℕ → g.Value → Type 0
+CanRaise {W} g graph keys group by =
+    (ls : List (Link g.Value)) (es : List Entry) → ExplainsIn g ls es graph → (old : W) × (keys group ≡ Some old) × Fits (kind_of g) (g.value old) by

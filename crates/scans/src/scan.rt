@@ -7,7 +7,7 @@ ghost use Rattle.cuts.specs.Links.{Link};
 ghost use Rattle.queues.specs.Keys.{Empty, Raised};
 ghost use Rattle.refusals.specs.declared.Refusal.{Refusal};
 ghost use Rattle.scans.specs.Scanned.{pairs_of, Scanned};
-ghost use Rattle.scans.specs.Waits.{Above, AllMarked, comes_to, Marks, present, Waits};
+ghost use Rattle.scans.specs.Waits.{Above, AllMarked, CanRaise, comes_to, Marks, present, Waits};
 ghost use Rattle.tables.specs.Meaning.{ExplainsIn, weight_of};
 
 use crate::found::Found;
@@ -51,14 +51,17 @@ fn some_joint<W: Weight>(graph: &Graph<W>, v: usize, w: usize) -> Option<W>
     }
 }
 
-// Raises a group, and tells whether its new key comes to best. Where it does not wait, or the sum is refused, nothing changes.
+// Raises a group, and tells whether its new key comes to best. It waits, and its sum is not refused, in any plan that the view
+// is that of; on any other view nothing changes where it does not wait or its sum is refused.
 fn raised_to<W: Weight, Q: PriorityQueue<Weight = W>>(
     queue: &mut Q,
+    _graph: &Graph<W>,
     group: usize,
     by: W,
     best: W,
 ) -> bool
     requires sound { Q.PriorityQueue.sound queue.old }
+    requires can { CanRaise W.Weight _graph.now (Q.PriorityQueue.key queue.old) group (W.Weight.value by) }
     ensures sound { Q.PriorityQueue.sound queue.new }
     ensures raised { (answer : Result W Refusal) × Raised W.Weight.value W.Weight.plus W.Weight.size (Q.PriorityQueue.key queue.old) (Q.PriorityQueue.key queue.new) group by answer × (result ≡ comes_to W.Weight (W.Weight.value best) answer) }
 {
@@ -92,7 +95,7 @@ pub fn scan<W: Weight, Q: PriorityQueue<Weight = W>>(
             let Some(joint) = some_joint(graph, v, w) else {
                 continue;
             };
-            if raised_to(queue, w, joint, best) {
+            if raised_to(queue, graph, w, joint, best) {
                 found.note(v, w);
             }
         }

@@ -78,16 +78,24 @@ module _ {W : Type 0} (g : Ghosts W) (table : List W) (n a b : ℕ) (weight : W)
   pub ends_below : (a < n) × (b < n)
   ends_below = ends_last n held.0 _ held.2.ends
 
-module _ {W : Type 0} (g : Ghosts W) (laws : Lawful (kind_of g)) (table : List W) (n a b : ℕ) (weight : W) (la : a < n) (lb : b < n) (ls : List (Link g.Value)) (holds : Holds g n ls [] table) (sound : Sound (kind_of g) n (linked ls a b (g.value weight))) where
-  -- the weight can be added to an entry that is a sum over the links
-  fits : (test : ℕ → ℕ → Bool) (v : g.Value) → v ≡ sum (kind_of g) test ls → g.size v + g.size (g.value weight) ≤ limit
-  fits test v is = subst (λ v. g.size v + g.size (g.value weight) ≤ limit) (sym is) (next_fits (kind_of g) laws test n ls [] _ sound refl)
+module _ {W : Type 0} (g : Ghosts W) (laws : Lawful (kind_of g)) (table : List W) (n : ℕ) (ls : List (Link g.Value)) (next : Link g.Value) (holds : Holds g n ls [] table) (sound : Sound (kind_of g) n (ls ++ (next ∷ []))) (on : next.in_service ≡ true) where
+  -- the weight of the next link can be added to an entry that is a sum over the links
+  sum_fits : (test : ℕ → ℕ → Bool) (v : g.Value) → v ≡ sum (kind_of g) test ls → g.size v + g.size next.weight ≤ limit
+  sum_fits test v is = subst (λ v. g.size v + g.size next.weight ≤ limit) (sym is) (next_fits (kind_of g) laws test n ls [] next sound on)
 
+  -- and so to any
+  pub entry_fits : (row column : ℕ) → row < n → column < n → g.size (at g table n row column) + g.size next.weight ≤ limit
+  entry_fits row column lr lc = ⊎_elim
+      (λ (e : row ≡ column). subst (λ c. g.size (at g table n row c) + g.size next.weight ≤ limit) e (sum_fits _ _ (holds.degrees row (stands_from n [] row lr refl))))
+      (λ (apart : row ≡ column → ⊥). sum_fits _ _ (holds.joints row column (stands_from n [] row lr refl) (stands_from n [] column lc refl) apart))
+      (cases_eq row column)
+
+module _ {W : Type 0} (g : Ghosts W) (laws : Lawful (kind_of g)) (table : List W) (n a b : ℕ) (weight : W) (la : a < n) (lb : b < n) (ls : List (Link g.Value)) (holds : Holds g n ls [] table) (sound : Sound (kind_of g) n (linked ls a b (g.value weight))) where
   pub joint_fits : (a ≡ b → ⊥) → g.size (at g table n a b) + g.size (g.value weight) ≤ limit
-  joint_fits apart = fits _ _ (holds.joints a b (stands_from n [] a la refl) (stands_from n [] b lb refl) apart)
+  joint_fits apart = entry_fits g laws table n ls _ holds sound refl a b la lb
 
   pub degree_fits : (u : ℕ) → u < n → g.size (at g table n u u) + g.size (g.value weight) ≤ limit
-  degree_fits u lu = fits _ _ (holds.degrees u (stands_from n [] u lu refl))
+  degree_fits u lu = entry_fits g laws table n ls _ holds sound refl u u lu lu
 
 -- the table with the entry of a and b and both degrees written
 abbrev pub filled : {W : Type 0} → List W → ℕ → ℕ → ℕ → W → W → W → List W

@@ -6,6 +6,7 @@ use Rattle.weights.specs.Laws.{limit}
 use Rattle.weights.specs.declared.weight.Weight.{Ghosts}
 use Rattle.cuts.specs.declared.entry.Entry.{Entry}
 use Rattle.cuts.specs.declared.ground.Ground.{Ground}
+use Rattle.cuts.specs.declared.ground.Ground.TheVariants.{Heavy}
 use Rattle.cuts.specs.Kinds.{Lawful, kind_of}
 use Rattle.cuts.specs.Links.{Link}
 use Rattle.cuts.specs.Groups.{stands}
@@ -42,21 +43,27 @@ module _ {W : Type 0} (g : Ghosts W) (n low high : ℕ) (old : List W) (groups :
         out ls es ground scan ex third = let up = ex.tracks.standing w lt ∙ third.0 in let no = third.1 in let neither = third.2 in grind (arith, nat_tests)
 
     -- a group that stands and is neither of the two
-    pub merging_more : (table : List W) (w : ℕ) (sum both next : W) → low < n → w < n → n * n ≤ length table → (get_or groups.standing w false && not (eqb w low || eqb w high)) ≡ true
-        → (g.size (at g table n low w) + g.size (at g table n high w) ≤ limit → g.value both ≡ g.plus (at g table n low w) (at g table n high w))
-        → (g.size (g.value sum) + g.size (g.value both) ≤ limit → g.value next ≡ g.plus (g.value sum) (g.value both))
-        → Merging table w sum → Merging (written table n low w both) (w + 1) next
-    merging_more table w sum both next lu lt size here is grown m = record {
-      rest = written_rest g n low old table w both lu lt ∙ m.rest;
-      kept = kept_more g n low old table w both lu lt m.kept;
-      mid = λ ls es ground scan ex sl sh less.
-          let e = merger low high ground scan in
-          let third : Third n es e w = (sym (ex.tracks.standing w lt) ∙ (and_parts _ _ here).0, (λ i. grind (arith, nat_tests, here)), (λ i. grind (arith, nat_tests, here))) in
-          let mid = m.mid ls es ground scan ex sl sh less in
-          let read = is (both_fit g n ls es e laws ex.sound ex.joins sl sh less old table ex.holds w m.kept third) in
-          mid_more g n ls es e laws ex.sound ex.joins sl sh less old table ex.holds w m.kept third sum both mid read next size
-          (grown (sum_fits g n ls es e laws ex.sound ex.joins sl sh less old table ex.holds w m.kept third sum both mid read));
-    }
+    module _ (table : List W) (w : ℕ) (sum : W) (lt : w < n) (here : (get_or groups.standing w false && not (eqb w low || eqb w high)) ≡ true) (m : Merging table w sum) where
+      third : (ls : List (Link g.Value)) (es : List Entry) (ground : Ground) (scan : ℕ) → Explains g n ls es old groups → Third n es (merger low high ground scan) w
+      third ls es ground scan ex = (sym (ex.tracks.standing w lt) ∙ (and_parts _ _ here).0, (λ i. grind (arith, nat_tests, here)), (λ i. grind (arith, nat_tests, here)))
+
+      -- its two joint weights can be added
+      pub merging_both : (ls : List (Link g.Value)) (es : List Entry) → Explains g n ls es old groups → stands n es low ≡ true → stands n es high ≡ true → low < high → g.size (at g table n low w) + g.size (at g table n high w) ≤ limit
+      merging_both ls es ex sl sh less = both_fit g n ls es (merger low high Heavy 0) laws ex.sound ex.joins sl sh less old table ex.holds w m.kept (third ls es Heavy 0 ex)
+
+      module _ (both : W) (is : g.size (at g table n low w) + g.size (at g table n high w) ≤ limit → g.value both ≡ g.plus (at g table n low w) (at g table n high w)) where
+        -- and so can what they come to, to what was added up
+        pub merging_sum : (ls : List (Link g.Value)) (es : List Entry) → Explains g n ls es old groups → stands n es low ≡ true → stands n es high ≡ true → low < high → g.size (g.value sum) + g.size (g.value both) ≤ limit
+        merging_sum ls es ex sl sh less = sum_fits g n ls es (merger low high Heavy 0) laws ex.sound ex.joins sl sh less old table ex.holds w m.kept (third ls es Heavy 0 ex) sum both (m.mid ls es Heavy 0 ex sl sh less) (is (merging_both ls es ex sl sh less))
+
+        pub merging_more : (next : W) → low < n → n * n ≤ length table → (g.size (g.value sum) + g.size (g.value both) ≤ limit → g.value next ≡ g.plus (g.value sum) (g.value both)) → Merging (written table n low w both) (w + 1) next
+        merging_more next lu size grown = record {
+          rest = written_rest g n low old table w both lu lt ∙ m.rest;
+          kept = kept_more g n low old table w both lu lt m.kept;
+          mid = λ ls es ground scan ex sl sh less.
+              mid_more g n ls es (merger low high ground scan) laws ex.sound ex.joins sl sh less old table ex.holds w m.kept (third ls es ground scan ex) sum both (m.mid ls es ground scan ex sl sh less)
+              (is (merging_both ls es ex sl sh less)) next size (grown (merging_sum ls es ex sl sh less));
+        }
 
     -- at the end, with the degree of the merged group written
     pub merging_all : (table : List W) (sum : W) → n * n ≤ length table → Merging table n sum

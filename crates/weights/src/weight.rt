@@ -78,8 +78,16 @@ pub fn part_at(parts: &[u32], i: usize) -> u32
     parts.get(i).copied().unwrap_or(0)
 }
 
-// Both together, where the amounts keep the limit; where they do not, the first alone.
+// Both together, where the amounts are known to keep the limit.
 pub fn add<W: Weight>(a: W, b: W) -> W
+    requires { W.Weight.size (W.Weight.value a) + W.Weight.size (W.Weight.value b) ≤ limit }
+    ensures { W.Weight.value result ≡ W.Weight.plus (W.Weight.value a) (W.Weight.value b) }
+{
+    a.sum(b).unwrap()
+}
+
+// Both together, where the amounts keep the limit; where they do not, the first alone.
+pub fn add_or_keep<W: Weight>(a: W, b: W) -> W
     ensures fits { W.Weight.size (W.Weight.value a) + W.Weight.size (W.Weight.value b) ≤ limit → W.Weight.value result ≡ W.Weight.plus (W.Weight.value a) (W.Weight.value b) }
     ensures over { limit < W.Weight.size (W.Weight.value a) + W.Weight.size (W.Weight.value b) → result ≡ a }
 {

@@ -1,16 +1,18 @@
 // The tests of a pair of groups.
-ghost use Rattle.std.specs.Prelude.{◌≡◌, ◌<◌, Decides};
+ghost use Rattle.std.specs.Prelude.{◌≡◌, ◌+◌, ◌<◌, ◌≤◌, ◌||◌, Decides};
+ghost use Rattle.weights.specs.Laws.{limit};
 ghost use Rattle.cuts.specs.declared.ground.Ground.TheVariants.{Triangle, Neighbourhood};
 ghost use Rattle.cuts.specs.Kinds.{kind_of, lesser as lighter};
 ghost use Rattle.cuts.specs.Tests.{Meets};
 ghost use Rattle.passes.specs.Passed.{Apex, Judged};
-ghost use Rattle.passes.specs.Pairs.{InEachPlan};
+ghost use Rattle.passes.specs.Pairs.{InEachPlan, FitsInEachPlan};
+ghost use Rattle.tables.specs.Meaning.{weight_of};
 
 use crate::pair::Pair;
-use crate::pairs::{is_unbalanced, within_twice};
+use crate::pairs::is_unbalanced;
 use cuts::ground::Ground;
 use tables::graph::Graph;
-use weights::weight::{Weight, add};
+use weights::weight::Weight;
 
 // The lighter of two weights.
 fn lesser<W: Weight>(a: W, b: W) -> W
@@ -31,6 +33,34 @@ impl<'p, 'g, W: Weight> Pair<'p, 'g, W> {
         Pair { graph, u, v }
     }
 
+    // Two weights together: their sum is not refused in any plan that the pair is one of.
+    fn sum(&self, a: W, b: W) -> W
+        requires fits { FitsInEachPlan W.Weight self.now (W.Weight.value a) (W.Weight.value b) }
+        ensures { W.Weight.size (W.Weight.value a) + W.Weight.size (W.Weight.value b) ≤ limit → W.Weight.value result ≡ W.Weight.plus (W.Weight.value a) (W.Weight.value b) }
+    {
+        a.sum(b).unwrap_or(a)
+    }
+
+    // Whether a degree is at most twice a weight, whose double is not refused in any plan that the pair is one of.
+    fn is_within_twice(&self, degree: W, weight: W) -> bool
+        requires fits { FitsInEachPlan W.Weight self.now (W.Weight.value weight) (W.Weight.value weight) }
+        ensures { W.Weight.size (W.Weight.value weight) + W.Weight.size (W.Weight.value weight) ≤ limit → result ≡ W.Weight.le (W.Weight.value degree) (W.Weight.plus (W.Weight.value weight) (W.Weight.value weight)) }
+    {
+        weight.sum(weight).is_ok_and(|twice| degree.at_most(twice))
+    }
+
+    // Unbalanced: the degree of one of the two is at most twice their joint weight.
+    fn is_unbalanced(&self, joint: W) -> bool
+        requires fits { FitsInEachPlan W.Weight self.now (W.Weight.value joint) (W.Weight.value joint) }
+        ensures { W.Weight.size (W.Weight.value joint) + W.Weight.size (W.Weight.value joint) ≤ limit → result ≡ (W.Weight.le (weight_of W.Weight self.now.graph.now self.now.u self.now.u) (W.Weight.plus (W.Weight.value joint) (W.Weight.value joint)) || W.Weight.le (weight_of W.Weight self.now.graph.now self.now.v self.now.v) (W.Weight.plus (W.Weight.value joint) (W.Weight.value joint))) }
+    {
+        is_unbalanced(
+            joint,
+            self.graph.entry(self.u, self.u),
+            self.graph.entry(self.v, self.v),
+        )
+    }
+
     // Whether a group makes a triangle of the pair: it is a third one, and each degree is at most twice
     // what joins it to the other two.
     fn is_apex(&self, apex: usize) -> bool
@@ -39,13 +69,13 @@ impl<'p, 'g, W: Weight> Pair<'p, 'g, W> {
     {
         let joint = self.graph.entry(self.u, self.v);
         self.graph.is_third(self.u, self.v, apex)
-            && within_twice(
+            && self.is_within_twice(
                 self.graph.entry(self.u, self.u),
-                add(joint, self.graph.entry(self.u, apex)),
+                self.sum(joint, self.graph.entry(self.u, apex)),
             )
-            && within_twice(
+            && self.is_within_twice(
                 self.graph.entry(self.v, self.v),
-                add(joint, self.graph.entry(self.v, apex)),
+                self.sum(joint, self.graph.entry(self.v, apex)),
             )
     }
 
@@ -64,7 +94,7 @@ impl<'p, 'g, W: Weight> Pair<'p, 'g, W> {
         // The groups' numbers are what is gone over: they are rows and columns of the table.
         for w in 0..self.graph.units() {
             if self.graph.is_third(self.u, self.v, w) {
-                sum = add(
+                sum = self.sum(
                     sum,
                     lesser(self.graph.entry(self.u, w), self.graph.entry(self.v, w)),
                 );
@@ -81,11 +111,7 @@ impl<'p, 'g, W: Weight> Pair<'p, 'g, W> {
         if best.at_most(joint) {
             return Some(Ground::Heavy);
         }
-        if is_unbalanced(
-            joint,
-            self.graph.entry(self.u, self.u),
-            self.graph.entry(self.v, self.v),
-        ) {
+        if self.is_unbalanced(joint) {
             return Some(Ground::Unbalanced);
         }
         if self.is_triangle() {

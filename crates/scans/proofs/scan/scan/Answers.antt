@@ -1,7 +1,7 @@
 use Rattle.std.proofs.Common.{◌≡◌, ◌<◌, false, sym, ◌∙◌, arith, rules, length-set}
 use Rattle.scans.proofs.Counts.{marks_less}
 use Rattle.scans.proofs.Waiting.{unmarked, marked_raised}
-use Rattle.scans.proofs.Raising.{raise_gone, raise_light, raise_short, raise_found, keyed_every, notes_every}
+use Rattle.scans.proofs.Raising.{raise_can, raise_gone, raise_light, raise_short, raise_found, keyed_every, notes_every}
 use Rattle.scans.proofs.Taking.{taking_none, turn, taking_more}
 use Rattle.scans.proofs.scan.scan.Goals as goal
 use Rattle.scans.proofs.scan.scan.Goals.{then-raised_to, else-raised_to}
@@ -58,6 +58,19 @@ loop-w-preserved-in_default-some_joint g c =
       units = was.units;
       marked = was.marked;
       raising = λ ls es taken turn. raise_light g.met.W.Weight.laws turn (omega (arith, c.units-w-end.ensures)) (was.raising ls es taken turn) c.if-not-waiting-w.false c.in_default-some_joint.ensures;
+    }
+
+pub raised_to-requires : goal.raised_to-requires
+raised_to-requires g c =
+    let laws = g.met.W.Weight.laws in
+    let was = c.loop-v.invariant in
+    let taken = c.in-Some.ensures.taken in
+    record {
+      sound = c.loop-w.invariant.sound;
+      can = λ ls es means.
+          let taking = was.taking ls es means in
+          let over = turn laws means taking c.in-Some.v c.in-Some.field-0-1 taken.0 (omega arith) taken.1 in
+          raise_can laws over (omega (arith, c.units-w-end.ensures)) (c.loop-w.invariant.raising ls es taking.taken over) c.if-not-waiting-w.false c.in-Some-some_joint.joint c.in-Some-some_joint.ensures;
     }
 
 pub loop-w-preserved : goal.loop-w-preserved

@@ -9,6 +9,15 @@ use Rattle.plans.proofs.plan.weighs.cut_weight.Goals.{then-is_cut, else-is_cut}
 pub loop-link-init : goal.loop-link-init
 loop-link-init g c = adding_none g.W.Weight (λ x y. differ (side_of c.args.marks.now x) (side_of c.args.marks.now y)) g.met.W.Weight.laws c.args.links.now _ c.nothing-sum.ensures c.requires.total
 
+pub add-sum-requires : goal.add-sum-requires
+add-sum-requires g c =
+    let T = λ (x y : ℕ). differ (side_of c.args.marks.now x) (side_of c.args.marks.now y) in
+    let all = c.args.links.now in
+    let i = c.loop-link.link-index in
+    let l = c.link-item.result in
+    let here = drop_more all i l c.loop-link-test.true ∙ ap (λ x. x ∷ drop (i + 1) all) (sym c.link-item.is) in
+    fits_more g.W.Weight T g.met.W.Weight.laws all i l _ here c.loop-link.invariant
+
 pub loop-link-preserved : goal.loop-link-preserved
 loop-link-preserved g c =
     let T = λ (x y : ℕ). differ (side_of c.args.marks.now x) (side_of c.args.marks.now y) in
@@ -18,7 +27,7 @@ loop-link-preserved g c =
     let here = drop_more all i l c.loop-link-test.true ∙ ap (λ x. x ∷ drop (i + 1) all) (sym c.link-item.is) in
     let before = c.loop-link.invariant in
     elim c.if-is_cut.branch [
-      | then-is_cut w ↦ adding_more g.W.Weight T g.met.W.Weight.laws all i l _ here before _ (ap g.W.Weight.value w.sum-is ∙ w.add-sum.ensures.fits (fits_more g.W.Weight T g.met.W.Weight.laws all i l _ here before)) (taken g.W.Weight T l (drop (i + 1) all) (sym c.is_cut.ensures ∙ w.if-is_cut.true))
+      | then-is_cut w ↦ adding_more g.W.Weight T g.met.W.Weight.laws all i l _ here before _ (ap g.W.Weight.value w.sum-is ∙ w.add-sum.ensures) (taken g.W.Weight T l (drop (i + 1) all) (sym c.is_cut.ensures ∙ w.if-is_cut.true))
       | else-is_cut w ↦ subst (λ x. Adding g.W.Weight T g.met.W.Weight.laws all (i + 1) (g.W.Weight.value x)) (sym w.sum-is) (adding_skip g.W.Weight T g.met.W.Weight.laws all i l _ here before (passed_over g.W.Weight T l (drop (i + 1) all) (sym c.is_cut.ensures ∙ w.if-is_cut.false)))
     ]
 

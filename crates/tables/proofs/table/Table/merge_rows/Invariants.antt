@@ -1,9 +1,4 @@
-use Rattle.tables.specs.Meaning.{SameMemory}
-use Rattle.tables.proofs.Turns.{Merging}
 use Rattle.tables.proofs.table.Table.merge_rows.Given as goal
 
-abbrev pub invariant-loop-w : goal.invariant-loop-w
-invariant-loop-w g l = record {
-  memory : SameMemory l.initial.self l.self;
-  merging : Merging g.W.Weight l.initial.self.units l.low l.high l.initial.self.weights.now l.groups l.self.weights.now l.w l.degree;
-}
+abbrev pub ghost-merge : goal.ghost-merge
+ghost-merge g a = record { weights = a.self.now.weights.now; units = a.self.now.units; groups = a.groups.now; low = a.low; high = a.high }
