@@ -1,5 +1,6 @@
 // The bytes of a sheet, from docs/SHEET.md alone and with nothing of the library.
-ghost use Rattle.std.specs.Prelude.{◌≤◌};
+ghost use Rattle.std.specs.List.{list_any};
+ghost use Rattle.std.specs.Prelude.{◌≡◌, ◌≤◌, ◌≢◌, ◌==◌, None, Some, if◌then◌else◌, nat_lt, vec_len};
 
 use crate::drafts::Draft;
 use samples::wire::WeightKind;
@@ -41,12 +42,35 @@ pub fn encode(heap: Global, draft: &Draft, issue: u16) -> Result<Vec<u8>, AllocE
     Ok(bytes)
 }
 
+// Whether some code has seven characters.
+fn any_long(codes: &[Vec<u8>]) -> bool
+    ensures { result ≡ list_any (λ code. vec_len code == 7) codes.now }
+{
+    codes.iter().any(|code| code.len() == 7)
+}
+
+// The number for too little room.
+fn short(size: usize, room: usize) -> Option<u8>
+    ensures { result ≡ (if nat_lt room size then Some 17 else None) }
+{
+    if room < size { Some(17) } else { None }
+}
+
 // The number that write is to be refused with, if any: a number, since nothing here is the library's.
-pub fn refusal(draft: &Draft, issue: u16, size: usize, room: usize) -> Option<u8> {
+pub fn refusal(draft: &Draft, issue: u16, size: usize, room: usize) -> Option<u8>
+    ensures first { issue ≡ 1 → result ≡ (if list_any (λ code. vec_len code == 7) draft.now.codes.items then Some 16 else (if nat_lt room size then Some 17 else None)) }
+    ensures second { issue ≡ 2 → result ≡ (if nat_lt room size then Some 17 else None) }
+    ensures none { issue ≢ 1 → issue ≢ 2 → result ≡ Some 2 }
+{
     match issue {
-        1 if draft.codes.iter().any(|code| code.len() == 7) => Some(16),
-        1 | 2 if room < size => Some(17),
-        1 | 2 => None,
+        1 => {
+            if any_long(draft.codes.as_slice()) {
+                Some(16)
+            } else {
+                short(size, room)
+            }
+        }
+        2 => short(size, room),
         _ => Some(2),
     }
 }

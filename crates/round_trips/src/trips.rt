@@ -1,5 +1,6 @@
 // A draft as a plan, written, read back and written again.
-ghost use Rattle.std.specs.Prelude.{◌≡◌, IfOk};
+ghost use Rattle.std.specs.List.{list_any};
+ghost use Rattle.std.specs.Prelude.{◌≡◌, ◌≢◌, ◌==◌, IfOk, None, Some, if◌then◌else◌, nat_lt, vec_len};
 
 use crate::drafts::Draft;
 use crate::encoder::{encode, refusal};
@@ -65,7 +66,11 @@ impl<'a> Case<'a> {
     }
 
     // The number that write into so many bytes is to be refused with, if any, as the encoder states it.
-    pub fn refusal(&self, room: usize) -> Option<u8> {
+    pub fn refusal(&self, room: usize) -> Option<u8>
+        ensures first { self.now.issue ≡ 1 → result ≡ (if list_any (λ code. vec_len code == 7) self.now.draft.now.codes.items then Some 16 else (if nat_lt room (vec_len self.now.sheet) then Some 17 else None)) }
+        ensures second { self.now.issue ≡ 2 → result ≡ (if nat_lt room (vec_len self.now.sheet) then Some 17 else None) }
+        ensures none { self.now.issue ≢ 1 → self.now.issue ≢ 2 → result ≡ Some 2 }
+    {
         refusal(self.draft, self.issue, self.sheet.len(), room)
     }
 
